@@ -1,0 +1,2 @@
+pub mod AppendixA
+pub mod Static
