@@ -1,11 +1,12 @@
 -- Laws of writers: how each of the three outcomes meets `Writes`, and what stands in the buffer after a write. Assumes nothing.
 use mathlib.Core.Path.{_≡_, refl, sym, ap, _∙_}
 use mathlib.Core.Bool.{Bool, true, false, cond}
-use mathlib.Core.List.{List, _++_, append-assoc}
-use Prim.Native.Nat.{ℕ, _+_, _≤_, _<_}
+use mathlib.Core.List.{List, [], _∷_, _++_, append-assoc}
+use Prim.Native.Nat.{ℕ, suc, _+_, _≤_, _<_}
+use native.Mathlib.Nat.{add-zero}
 use native.Mathlib.Omega.{arith}
 use lib.Dec.{leb}
-use lib.ListN.{length, take, drop}
+use lib.ListN.{length, take, drop, set}
 use lib.Seq.{sets, sets-eq, length-take-le, drop-at}
 use borrow.Author.Tests.{le-leb, lt-leb, leb-true}
 use Rattle.answers.specs.Answer.{Answer, done, refused, andThen}
@@ -55,3 +56,17 @@ there l at bytes room =
     let fits : leb (at + length bytes) (length l) ≡ true = le-leb _ _ room in
     let front : length (take at l) ≡ at = length-take-le at l (omega arith) in
     rw (fits, append-assoc) (drop-at (take at l) (bytes ++ rest) at front)
+
+-- a write that had room is a run of stores
+pub writes-sets : (bytes l : List ℕ) (at : ℕ) (r : Written) (m : List ℕ) → at + length bytes ≤ length l → Writes (done bytes) l at r m
+    → (written r ≡ done (at + length bytes)) × (m ≡ sets l at bytes)
+writes-sets bytes l at r m room w =
+    let fits : leb (at + length bytes) (length l) ≡ true = le-leb _ _ room in
+    (rw fits at (w .answer), rw fits at (w .bytes) ∙ sym (sets-eq bytes l at room))
+
+-- two runs of stores are one
+pub sets-append : (xs ys l : List ℕ) (i : ℕ) → sets (sets l i xs) (i + length xs) ys ≡ sets l i (xs ++ ys)
+sets-append [] ys l i = rw add-zero
+sets-append (x ∷ xs) ys l i =
+    let e : i + suc (length xs) ≡ suc i + length xs = omega arith in
+    rw e (sets-append xs ys (set l i x) (suc i))

@@ -1,0 +1,2 @@
+pub mod Tab
+pub mod Ring

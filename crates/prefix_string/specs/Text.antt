@@ -1,0 +1,54 @@
+-- Document 01, "Plain strings: H bit, length, bytes. H set is refused once its byte is seen, before the length." (RFC 7541 5.2)
+use mathlib.Core.Bool.{Bool, true, false, cond}
+use mathlib.Core.List.{List, _++_}
+use Prim.Native.Nat.{ℕ, _+_, _-_, _*_, _/_, _%_, _^_}
+use lib.Dec.{ltb, leb, eqb}
+use lib.ListN.{length, getD}
+use Rattle.answers.specs.Answer.{Answer, done, refused, andThen}
+use Rattle.answers.specs.declared.Refusal.the-variants.{UnexpectedEnd, HuffmanString, BadCall}
+use Rattle.prefix_int.specs.Integer.{Integer, intAt, encode}
+use Rattle.prefix_string.specs.declared.TextRead.{TextRead}
+
+-- a string that was read: the bits above H, where its bytes start, how many there are, and the position past them
+pub record Text : Type 0 where
+  pub flags : ℕ
+  pub start : ℕ
+  pub len : ℕ
+  pub next : ℕ
+
+-- the bit above a prefix of n bits
+abbrev pub hBit : ℕ → ℕ → ℕ
+hBit n b = b / 2 ^ n % 2
+
+-- the bytes after a length
+abbrev pub bytesAfter : List ℕ → Integer → Answer Text
+bytesAfter s i =
+    cond (ltb (length s - i .next) (i .value))
+    (refused UnexpectedEnd)
+    (done (record { flags = i .flags / 2; start = i .next; len = i .value; next = i .next + i .value }))
+
+-- with H above it, a length's prefix has 1 to 7 bits
+unfoldable pub textAt : List ℕ → ℕ → ℕ → Answer Text
+textAt s at n =
+    cond (ltb n 1)
+    (refused BadCall)
+    (cond (ltb 7 n)
+    (refused BadCall)
+    (cond (leb (length s) at)
+    (refused UnexpectedEnd)
+    (cond (eqb (hBit n (getD s at 0)) 1) (refused HuffmanString) (andThen (intAt s at n) (bytesAfter s)))))
+
+abbrev pub textRead : TextRead → Answer Text
+textRead (TextRead.Text f s n e) = done (record { flags = f; start = s; len = n; next = e })
+textRead (TextRead.Refused r) = refused r
+
+-- "22: width, flags past 8-N bits", one of which is H
+abbrev pub goodText : ℕ → ℕ → Bool
+goodText n f = cond (ltb n 1) false (cond (ltb 7 n) false (ltb f (2 ^ (7 - n))))
+
+-- "strings are written plain": H is 0
+abbrev pub plain : ℕ → ℕ → List ℕ → List ℕ
+plain n f t = encode n (f * 2) (length t) ++ t
+
+abbrev pub textBytes : ℕ → ℕ → List ℕ → Answer (List ℕ)
+textBytes n f t = cond (goodText n f) (done (plain n f t)) (refused BadCall)
