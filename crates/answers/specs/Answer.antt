@@ -1,10 +1,36 @@
 -- Document 01, "What the desk answers": the number of each row, and what an answer is.
+use mathlib.Core.Bool.{Bool, cond}
+use mathlib.Core.Option.{Option, some, none}
 use Prim.Native.Nat.{ℕ}
+use lib.Dec.{eqb}
 use Rattle.answers.specs.declared.Refusal.{Refusal}
 use Rattle.answers.specs.declared.Refusal.the-variants.{
-  UnexpectedEnd, Overflow, HuffmanString, InvalidStaticIndex, BadRelativeIndex, BadPostbaseIndex, BadIndex, MaxTableSizeReached,
-  MaximumTableSizeTooLarge, AboveLentRoom, MaxBlockedStreamsTooLarge, UnknownStreamId, MissingRefs, BadBaseIndex, BadInsertCount, BufSize,
-  ShrinkBlocked, SectionOpen, NoSection, TrackingFull, BadLargest, BadCall, CountTooLarge, OutputFull, HeaderTooLong, InvalidPrefix
+  UnexpectedEnd,
+  Overflow,
+  HuffmanString,
+  InvalidStaticIndex,
+  BadRelativeIndex,
+  BadPostbaseIndex,
+  BadIndex,
+  MaxTableSizeReached,
+  MaximumTableSizeTooLarge,
+  AboveLentRoom,
+  MaxBlockedStreamsTooLarge,
+  UnknownStreamId,
+  MissingRefs,
+  BadBaseIndex,
+  BadInsertCount,
+  BufSize,
+  ShrinkBlocked,
+  SectionOpen,
+  NoSection,
+  TrackingFull,
+  BadLargest,
+  BadCall,
+  CountTooLarge,
+  OutputFull,
+  HeaderTooLong,
+  InvalidPrefix,
 }
 
 -- the rows 1 to 26
@@ -50,3 +76,12 @@ answerNumber (refused r) = numberOf r
 abbrev pub andThen : {A B : Type 0} → Answer A → (A → Answer B) → Answer B
 andThen (done a) f = f a
 andThen (refused r) f = refused r
+
+-- row 1
+abbrev pub endsEarly : Refusal → Bool
+endsEarly r = eqb (numberOf r) (numberOf UnexpectedEnd)
+
+-- "a cut instruction is left unread and is no refusal; a single-instruction reader answers 0, cut": none stands for cut
+abbrev pub cutShort : {A : Type 0} → Answer A → Answer (Option A)
+cutShort (done a) = done (some a)
+cutShort (refused r) = cond (endsEarly r) (done none) (refused r)

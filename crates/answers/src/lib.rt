@@ -1,6 +1,6 @@
 // What the desk answers: the refusals of document 01 by name, and each name's number.
 ghost use mathlib.Core.Path.{_≡_};
-ghost use Rattle.answers.specs.Answer.{numberOf};
+ghost use Rattle.answers.specs.Answer.{numberOf, endsEarly};
 
 // The rows 1 to 26, in their order. Row 0 is no refusal: each answer's own enum has it, with its values.
 pub enum Refusal {
@@ -64,6 +64,13 @@ pub fn number(r: Refusal) -> u8
         Refusal::HeaderTooLong => 25,
         Refusal::InvalidPrefix => 26,
     }
+}
+
+// Whether a refusal is that the bytes end early.
+pub fn ends_early(r: Refusal) -> bool
+    ensures { λ b. ⌜ b ≡ endsEarly r ⌝ }
+{
+    number(r) == 1
 }
 
 // What a writer did: the position past the bytes that it wrote, or a refusal, which leaves the buffer as it was.

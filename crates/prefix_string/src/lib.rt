@@ -22,11 +22,9 @@ pub enum TextRead {
 // The string at a position, whose length has a prefix of width bits.
 pub fn read(s: &[u8], at: usize, width: u32) -> TextRead
     ensures { λ r. ⌜ textRead r ≡ textAt (now (s .entry)) at width ⌝ }
-{
-}
+{}
 
 // A string with flags above its H bit, which is not set.
 pub fn write(buf: &mut [u8], at: usize, width: u32, flags: u8, text: &[u8]) -> Written
     ensures { λ r. ⌜ Writes (textBytes width flags (now (text .entry))) (now (buf .entry)) at r (now (buf .exit)) ⌝ }
-{
-}
+{}

@@ -39,23 +39,33 @@ pub enum TextsRead {
 // The value that follows an integer which was read.
 pub fn text_after(s: &[u8], integer: IntRead) -> IntTextRead
     ensures { λ r. ⌜ intTextRead r ≡ textAfter (now (s .entry)) (intRead integer) ⌝ }
-{
-}
+{}
 
 // A name whose length has a prefix of width bits, and a value.
 pub fn texts(s: &[u8], at: usize, width: u32) -> TextsRead
     ensures { λ r. ⌜ textsRead r ≡ textsAt (now (s .entry)) at width ⌝ }
-{
-}
+{}
 
 // An integer and a value, both or nothing.
-pub fn write_int_text(buf: &mut [u8], at: usize, width: u32, flags: u8, index: u64, value: &[u8]) -> Written
+pub fn write_int_text(
+    buf: &mut [u8],
+    at: usize,
+    width: u32,
+    flags: u8,
+    index: u64,
+    value: &[u8],
+) -> Written
     ensures { λ r. ⌜ Writes (intTextBytes width flags index (now (value .entry))) (now (buf .entry)) at r (now (buf .exit)) ⌝ }
-{
-}
+{}
 
 // A name and a value, both or nothing.
-pub fn write_texts(buf: &mut [u8], at: usize, width: u32, flags: u8, name: &[u8], value: &[u8]) -> Written
+pub fn write_texts(
+    buf: &mut [u8],
+    at: usize,
+    width: u32,
+    flags: u8,
+    name: &[u8],
+    value: &[u8],
+) -> Written
     ensures { λ r. ⌜ Writes (textsBytes width flags (now (name .entry)) (now (value .entry))) (now (buf .entry)) at r (now (buf .exit)) ⌝ }
-{
-}
+{}

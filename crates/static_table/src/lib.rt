@@ -2361,23 +2361,19 @@ const VALUES: [u8; 99] = [
 // The entry at an index.
 pub fn get(index: u64) -> StaticGot
     ensures { λ r. ⌜ got r ≡ entryAt index ⌝ }
-{
-}
+{}
 
 // The lowest index of a field.
 pub fn find(name: &[u8], value: &[u8]) -> StaticFound
     ensures { λ r. ⌜ found r ≡ lowestField (now (name .entry)) (now (value .entry)) ⌝ }
-{
-}
+{}
 
 // The lowest index of a name.
 pub fn find_name(name: &[u8]) -> StaticFound
     ensures { λ r. ⌜ found r ≡ lowestName (now (name .entry)) ⌝ }
-{
-}
+{}
 
 // Bytes of the table, written to a buffer: len of them from start on.
 pub fn copy(buf: &mut [u8], at: usize, start: usize, len: usize) -> Written
     ensures { λ r. ⌜ Writes (cutOf start len) (now (buf .entry)) at r (now (buf .exit)) ⌝ }
-{
-}
+{}

@@ -1,0 +1,3 @@
+pub mod Every
+pub mod Table
+pub mod Bytes
