@@ -1,8 +1,8 @@
 -- RFC 7541 section 5.1 over lists of bytes: what a read finds, the bytes of an integer, and when a call is no good.
-use mathlib.Core.Bool.{Bool, true, false, cond}
+use mathlib.Core.Bool.{Bool, false, cond}
 use mathlib.Core.List.{List, [], _∷_}
 use Prim.Native.Nat.{ℕ, zero, suc, _+_, _-_, _*_, _/_, _%_, _^_}
-use lib.Dec.{ltb, leb}
+use lib.Dec.{ltb}
 use lib.ListN.{length, drop}
 use Rattle.answers.specs.Answer.{Answer, done, refused, andThen}
 use Rattle.answers.specs.declared.Refusal.the-variants.{UnexpectedEnd, Overflow, BadCall, CountTooLarge}

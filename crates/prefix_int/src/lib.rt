@@ -120,7 +120,7 @@ fn bytes_of(value: u64, width: u32) -> usize
 }
 
 // Whether a width is within 1..=8 and flags fit above a prefix of that width.
-fn call_ok(width: u32, flags: u8) -> bool
+pub fn call_ok(width: u32, flags: u8) -> bool
     ensures { λ r. ⌜ r ≡ goodCall width flags ⌝ }
 {
     if width < 1 {

@@ -1,0 +1,4 @@
+pub mod Bounds
+pub mod Reading
+pub mod RoundTrip
+pub mod Writing
