@@ -1,2 +1,3 @@
 pub mod Answer
+pub mod Table
 pub mod Write

@@ -78,3 +78,53 @@ pub enum Written {
     Next(usize),
     Refused(Refusal),
 }
+
+// What a call that has nothing to give back answers.
+pub enum Reply {
+    Done,
+    Refused(Refusal),
+}
+
+// Where a search found a name or a field: in the static table, or in the dynamic one below the section's base or above it.
+pub enum Lookup {
+    Static(usize),
+    Relative { index: usize, absolute: usize },
+    PostBase { index: usize, absolute: usize },
+    NotFound,
+}
+
+// What an insertion did: how the new entry is written, or what names it where it was not made.
+pub enum Insertion {
+    Inserted {
+        postbase: usize,
+        absolute: usize,
+    },
+    Duplicated {
+        relative: usize,
+        postbase: usize,
+        absolute: usize,
+    },
+    InsertedWithNameRef {
+        postbase: usize,
+        relative: usize,
+        absolute: usize,
+    },
+    InsertedWithStaticNameRef {
+        postbase: usize,
+        index: usize,
+        absolute: usize,
+    },
+    NotInserted(Lookup),
+}
+
+// What a find answers.
+pub enum Find {
+    Found(Lookup),
+    Refused(Refusal),
+}
+
+// What an insert answers.
+pub enum Insert {
+    Insertion(Insertion),
+    Refused(Refusal),
+}
