@@ -2,7 +2,18 @@
 ghost use mathlib.Core.Path.{_≡_};
 ghost use Rattle.answers.specs.Write.{Writes};
 ghost use Rattle.block.specs.Lines.{
-    referenceOf, indexedLine, namedLine, literalLine, lineAt, lineRead, indexOf, indexedHead, namedHead, indexedBytes, namedBytes, literalBytes
+  referenceOf,
+  indexedLine,
+  namedLine,
+  literalLine,
+  lineAt,
+  lineRead,
+  indexOf,
+  indexedHead,
+  namedHead,
+  indexedBytes,
+  namedBytes,
+  literalBytes,
 };
 use answers::Refusal;
 use answers::Written;
@@ -157,7 +168,10 @@ fn indexed_head(entry: Reference) -> Head
     match entry {
         Reference::Static(_) => forms::head_of(Kind::Line(HeaderBlockField::Indexed), true),
         Reference::Relative(_) => forms::head_of(Kind::Line(HeaderBlockField::Indexed), false),
-        Reference::PostBase(_) => forms::head_of(Kind::Line(HeaderBlockField::IndexedWithPostBase), false),
+        Reference::PostBase(_) => forms::head_of(
+            Kind::Line(HeaderBlockField::IndexedWithPostBase),
+            false,
+        ),
     }
 }
 
@@ -166,9 +180,18 @@ fn named_head(entry: Reference) -> Head
     ensures { λ r. ⌜ r ≡ namedHead entry ⌝ }
 {
     match entry {
-        Reference::Static(_) => forms::head_of(Kind::Line(HeaderBlockField::LiteralWithNameRef), true),
-        Reference::Relative(_) => forms::head_of(Kind::Line(HeaderBlockField::LiteralWithNameRef), false),
-        Reference::PostBase(_) => forms::head_of(Kind::Line(HeaderBlockField::LiteralWithPostBaseNameRef), false),
+        Reference::Static(_) => forms::head_of(
+            Kind::Line(HeaderBlockField::LiteralWithNameRef),
+            true,
+        ),
+        Reference::Relative(_) => forms::head_of(
+            Kind::Line(HeaderBlockField::LiteralWithNameRef),
+            false,
+        ),
+        Reference::PostBase(_) => forms::head_of(
+            Kind::Line(HeaderBlockField::LiteralWithPostBaseNameRef),
+            false,
+        ),
     }
 }
 

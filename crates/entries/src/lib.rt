@@ -29,21 +29,55 @@ pub enum Latest {
 }
 
 // Whether a ring keeps its rules.
-pub fn check<'a>(starts: &'a [u16; SLOTS], names: &'a [u16; SLOTS], values: &'a [u16; SLOTS], dropped: usize, inserted: usize, size: usize, capacity: usize, tail: usize, head: usize) -> bool
+pub fn check<'a>(
+    starts: &'a [u16; SLOTS],
+    names: &'a [u16; SLOTS],
+    values: &'a [u16; SLOTS],
+    dropped: usize,
+    inserted: usize,
+    size: usize,
+    capacity: usize,
+    tail: usize,
+    head: usize,
+) -> bool
     ensures { λ r. ⌜ r ≡ keepsRules (between (now (starts .entry)) (now (names .entry)) (now (values .entry)) dropped inserted) dropped inserted size capacity tail head ⌝ }
 {
     false
 }
 
 // The fewest oldest entries, at most free of them, that leave the size at most room.
-pub fn fewest<'a>(names: &'a [u16; SLOTS], values: &'a [u16; SLOTS], dropped: usize, inserted: usize, size: usize, tail: usize, free: usize, room: usize) -> Room
+pub fn fewest<'a>(
+    names: &'a [u16; SLOTS],
+    values: &'a [u16; SLOTS],
+    dropped: usize,
+    inserted: usize,
+    size: usize,
+    tail: usize,
+    free: usize,
+    room: usize,
+) -> Room
     ensures { λ r. ⌜ ((starts : List ℕ) → r ≡ walked size tail free (between starts (now (names .entry)) (now (values .entry)) dropped inserted) room) ⌝ }
 {
-    Room { made: false, count: 0, size, tail }
+    Room {
+        made: false,
+        count: 0,
+        size,
+        tail,
+    }
 }
 
 // The latest entry of a name and, where the whole field is looked for, of a value. In a short arena there is none.
-pub fn newest<'a>(arena: &[u8], starts: &'a [u16; SLOTS], names: &'a [u16; SLOTS], values: &'a [u16; SLOTS], dropped: usize, inserted: usize, name: &[u8], value: &[u8], whole: bool) -> Latest
+pub fn newest<'a>(
+    arena: &[u8],
+    starts: &'a [u16; SLOTS],
+    names: &'a [u16; SLOTS],
+    values: &'a [u16; SLOTS],
+    dropped: usize,
+    inserted: usize,
+    name: &[u8],
+    value: &[u8],
+    whole: bool,
+) -> Latest
     ensures { λ r. ⌜ latest r ≡ cond (longEnough (now (arena .entry)))
         (lastOf (matches (now (name .entry)) (now (value .entry)) whole) (map (fieldOf (now (arena .entry))) (between (now (starts .entry)) (now (names .entry)) (now (values .entry)) dropped inserted)))
         none ⌝ }

@@ -1,2 +1,3 @@
 pub mod AppendixA
+pub mod Arrays
 pub mod Static

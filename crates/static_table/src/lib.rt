@@ -1,7 +1,13 @@
 // The static table of RFC 9204, Appendix A: ninety-nine names and values laid end to end as bytes.
 ghost use mathlib.Core.Path.{_≡_};
+ghost use Prim.Native.Nat.{_+_, _≤_, _<_};
+ghost use lib.ListN.{length, getD, take, drop};
+ghost use lib.Seq.{sets};
 ghost use Rattle.answers.specs.Write.{Writes};
-ghost use Rattle.static_table.specs.Static.{got, found, entryAt, lowestField, lowestName, cutOf};
+ghost use Rattle.field.specs.Field.{same, equal};
+ghost use Rattle.static_table.specs.AppendixA.{appendixA};
+ghost use Rattle.static_table.specs.Arrays.{Lent, valueLengths};
+ghost use Rattle.static_table.specs.Static.{noField, got, found, entryAt, lowestField, lowestName, cutOf};
 use answers::Refusal;
 use answers::Written;
 
@@ -23,7 +29,10 @@ pub enum StaticFound {
 
 const ENTRIES: usize = 99;
 
-const BYTES: [u8; 2026] = [
+// How many bytes the names and values have together.
+const SIZE: usize = 2026;
+
+const BYTES: [u8; SIZE] = [
     58,
     97,
     117,
@@ -2052,7 +2061,7 @@ const BYTES: [u8; 2026] = [
     110,
 ];
 
-const STARTS: [u16; 99] = [
+const STARTS: [u16; ENTRIES] = [
     0,
     10,
     16,
@@ -2154,7 +2163,7 @@ const STARTS: [u16; 99] = [
     2001,
 ];
 
-const NAMES: [u8; 99] = [
+const NAMES: [u8; ENTRIES] = [
     10,
     5,
     3,
@@ -2256,7 +2265,7 @@ const NAMES: [u8; 99] = [
     15,
 ];
 
-const VALUES: [u8; 99] = [
+const VALUES: [u8; ENTRIES] = [
     0,
     1,
     1,
@@ -2358,22 +2367,174 @@ const VALUES: [u8; 99] = [
     10,
 ];
 
+// A number of the arrays as a usize.
+fn wide8(x: u8) -> usize
+    ensures { λ r. ⌜ r ≡ x ⌝ }
+{
+    x as usize
+}
+
+fn wide16(x: u16) -> usize
+    ensures { λ r. ⌜ r ≡ x ⌝ }
+{
+    x as usize
+}
+
 // The entry at an index.
 pub fn get(index: u64) -> StaticGot
     ensures { λ r. ⌜ got r ≡ entryAt index ⌝ }
-{}
+{
+    if ENTRIES as u64 <= index {
+        return StaticGot::Refused(Refusal::InvalidStaticIndex);
+    }
+    let i = index as usize;
+    StaticGot::Entry {
+        start: wide16(STARTS[i]),
+        name: wide8(NAMES[i]),
+        value: wide8(VALUES[i]),
+    }
+}
+
+// Whether a text is the len bytes from start on: lengths first, so that a miss is cheap.
+fn text_is(bytes: &[u8], start: usize, len: usize, text: &[u8]) -> bool
+    requires { ⌜ start + len ≤ length (now bytes) ⌝ }
+    ensures { λ r. ⌜ r ≡ same (now (text .entry)) (take len (drop start (now (bytes .entry)))) ⌝ }
+{
+    if text.len() != len {
+        return false;
+    }
+    let mut i = 0;
+    while i < len {
+        if text[i] != bytes[start + i] {
+            return false;
+        }
+        i += 1;
+    }
+    true
+}
+
+// Whether an entry has that name. The arrays are lent: each use of a constant one makes it anew, byte by byte.
+fn name_is(
+    bytes: &[u8],
+    starts: &[u16; ENTRIES],
+    names: &[u8; ENTRIES],
+    i: usize,
+    name: &[u8],
+) -> bool
+    requires { ⌜ (i < 99) × Lent (now bytes) (now starts) (now names) ⌝ }
+    ensures { λ r. ⌜ r ≡ same (now (name .entry)) (getD appendixA i noField .name) ⌝ }
+{
+    text_is(bytes, wide16(starts[i]), wide8(names[i]), name)
+}
+
+// Whether an entry has that name and that value.
+fn field_is(
+    bytes: &[u8],
+    starts: &[u16; ENTRIES],
+    names: &[u8; ENTRIES],
+    values: &[u8; ENTRIES],
+    i: usize,
+    name: &[u8],
+    value: &[u8],
+) -> bool
+    requires { ⌜ (i < 99) × Lent (now bytes) (now starts) (now names) × (now values ≡ valueLengths appendixA) ⌝ }
+    ensures { λ r. ⌜ r ≡ equal (record { name = now (name .entry); value = now (value .entry) }) (getD appendixA i noField) ⌝ }
+{
+    if !name_is(bytes, starts, names, i, name) {
+        return false;
+    }
+    text_is(
+        bytes,
+        wide16(starts[i]) + wide8(names[i]),
+        wide8(values[i]),
+        value,
+    )
+}
+
+// The lowest index of a field, over the lent arrays.
+fn search_field(
+    bytes: &[u8],
+    starts: &[u16; ENTRIES],
+    names: &[u8; ENTRIES],
+    values: &[u8; ENTRIES],
+    name: &[u8],
+    value: &[u8],
+) -> StaticFound
+    requires { ⌜ Lent (now bytes) (now starts) (now names) × (now values ≡ valueLengths appendixA) ⌝ }
+    ensures { λ r. ⌜ found r ≡ lowestField (now (name .entry)) (now (value .entry)) ⌝ }
+{
+    let mut index = 0;
+    while index < ENTRIES {
+        if field_is(bytes, starts, names, values, index, name, value) {
+            return StaticFound::At(index);
+        }
+        index += 1;
+    }
+    StaticFound::Nothing
+}
 
 // The lowest index of a field.
 pub fn find(name: &[u8], value: &[u8]) -> StaticFound
     ensures { λ r. ⌜ found r ≡ lowestField (now (name .entry)) (now (value .entry)) ⌝ }
-{}
+{
+    search_field(&BYTES, &STARTS, &NAMES, &VALUES, name, value)
+}
+
+// The lowest index of a name, over the lent arrays.
+fn search_name(
+    bytes: &[u8],
+    starts: &[u16; ENTRIES],
+    names: &[u8; ENTRIES],
+    name: &[u8],
+) -> StaticFound
+    requires { ⌜ Lent (now bytes) (now starts) (now names) ⌝ }
+    ensures { λ r. ⌜ found r ≡ lowestName (now (name .entry)) ⌝ }
+{
+    let mut i = 0;
+    while i < ENTRIES {
+        if name_is(bytes, starts, names, i, name) {
+            return StaticFound::At(i);
+        }
+        i += 1;
+    }
+    StaticFound::Nothing
+}
 
 // The lowest index of a name.
 pub fn find_name(name: &[u8]) -> StaticFound
     ensures { λ r. ⌜ found r ≡ lowestName (now (name .entry)) ⌝ }
-{}
+{
+    search_name(&BYTES, &STARTS, &NAMES, name)
+}
+
+// The len bytes from start on, written to a buffer.
+fn put(buf: &mut [u8], at: usize, bytes: &[u8], start: usize, len: usize)
+    requires { ⌜ (start + len ≤ length (now bytes)) × (at + len ≤ length (now buf)) ⌝ }
+    ensures { λ r. ⌜ now (buf .exit) ≡ sets (now (buf .entry)) at (take len (drop start (now (bytes .entry)))) ⌝ }
+{
+    let mut k = 0;
+    while k < len {
+        buf[at + k] = bytes[start + k];
+        k += 1;
+    }
+}
 
 // Bytes of the table, written to a buffer: len of them from start on.
 pub fn copy(buf: &mut [u8], at: usize, start: usize, len: usize) -> Written
     ensures { λ r. ⌜ Writes (cutOf start len) (now (buf .entry)) at r (now (buf .exit)) ⌝ }
-{}
+{
+    if SIZE < len {
+        return Written::Refused(Refusal::BadCall);
+    }
+    if SIZE - len < start {
+        return Written::Refused(Refusal::BadCall);
+    }
+    if buf.len() < len {
+        return Written::Refused(Refusal::OutputFull);
+    }
+    if buf.len() - len < at {
+        return Written::Refused(Refusal::OutputFull);
+    }
+    put(buf, at, &BYTES, start, len);
+    Written::Next(at + len)
+}

@@ -3,7 +3,17 @@ ghost use mathlib.Core.Path.{_≡_};
 ghost use Rattle.answers.specs.Write.{Writes};
 ghost use Rattle.prefix_int.specs.Integer.{intRead};
 ghost use Rattle.stream.specs.Instructions.{
-    kindInt, pastLimit, integerAt, integerRead, integerBytes, nameRefAt, nameRefRead, nameRefBytes, literalAt, literalRead, literalBytes
+  kindInt,
+  pastLimit,
+  integerAt,
+  integerRead,
+  integerBytes,
+  nameRefAt,
+  nameRefRead,
+  nameRefBytes,
+  literalAt,
+  literalRead,
+  literalBytes,
 };
 use answers::Refusal;
 use answers::Written;
@@ -176,10 +186,19 @@ pub fn write_integer(buf: &mut [u8], at: usize, kind: Kind, value: u64) -> Writt
 }
 
 // An insert with a name reference.
-pub fn write_name_ref(buf: &mut [u8], at: usize, is_static: bool, index: u64, value: &[u8]) -> Written
+pub fn write_name_ref(
+    buf: &mut [u8],
+    at: usize,
+    is_static: bool,
+    index: u64,
+    value: &[u8],
+) -> Written
     ensures { λ r. ⌜ Writes (nameRefBytes «is_static» index (now (value .entry))) (now (buf .entry)) at r (now (buf .exit)) ⌝ }
 {
-    let head = forms::head_of(Kind::Encoder(EncoderInstruction::InsertWithNameRef), is_static);
+    let head = forms::head_of(
+        Kind::Encoder(EncoderInstruction::InsertWithNameRef),
+        is_static,
+    );
     shapes::write_int_text(buf, at, head.width, head.flags, index, value)
 }
 
@@ -187,7 +206,10 @@ pub fn write_name_ref(buf: &mut [u8], at: usize, is_static: bool, index: u64, va
 pub fn write_literal(buf: &mut [u8], at: usize, name: &[u8], value: &[u8]) -> Written
     ensures { λ r. ⌜ Writes (literalBytes (now (name .entry)) (now (value .entry))) (now (buf .entry)) at r (now (buf .exit)) ⌝ }
 {
-    let head = forms::head_of(Kind::Encoder(EncoderInstruction::InsertWithoutNameRef), false);
+    let head = forms::head_of(
+        Kind::Encoder(EncoderInstruction::InsertWithoutNameRef),
+        false,
+    );
     // The string's flags stand above H.
     shapes::write_texts(buf, at, head.width, head.flags / 2, name, value)
 }

@@ -1,0 +1,3 @@
+pub mod Uses
+pub mod Queue
+pub mod Waiting
