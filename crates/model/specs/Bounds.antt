@@ -1,5 +1,6 @@
 -- The bounds of document 01.
 use Prim.Native.Nat.{ℕ, _-_, _^_}
+use Rattle.arena.specs.Ring.{ring}
 
 -- "a section holds at most 32 distinct entries"
 abbrev pub sectionEntries : ℕ
@@ -31,4 +32,4 @@ largestCapacity = 1073741823
 
 -- "capacity up to 16,384"
 abbrev pub lentRoom : ℕ
-lentRoom = 16384
+lentRoom = ring

@@ -1,4 +1,5 @@
 pub mod Bounds
 pub mod Reading
 pub mod RoundTrip
+pub mod Writers
 pub mod Writing

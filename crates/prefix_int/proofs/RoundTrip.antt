@@ -1,5 +1,5 @@
 -- Reading what the writer wrote gives back the flags, the value and the position. Assumes nothing.
-use mathlib.Core.Path.{_≡_, refl, ap, _∙_}
+use mathlib.Core.Path.{_≡_, refl, _∙_}
 use mathlib.Core.Bool.{Bool, true, false, cond}
 use mathlib.Core.List.{List, [], _∷_, _++_}
 use Prim.Native.Nat.{ℕ, zero, suc, _+_, _-_, _*_, _/_, _%_, _^_, _≤_, _<_}
@@ -11,12 +11,12 @@ use lib.ListN.{length, drop}
 use lib.Pow.{pow-add, pow-pos}
 use borrow.Author.Tests.{lt-ltb, le-ltb, ltb-true, ltb-false}
 use Rattle.answers.specs.Answer.{Answer, done, refused, andThen}
-use Rattle.answers.specs.Write.{fitted, placed, left}
+use Rattle.answers.specs.Write.{fitted, left}
 use Rattle.answers.specs.declared.Refusal.the-variants.{BadCall, CountTooLarge}
-use Rattle.answers.proofs.Write.{wrote, there}
 use Rattle.prefix_int.specs.Integer.{Integer, groups, intFrom, intAt, spell, encode, goodCall, intBytes}
 use Rattle.prefix_int.proofs.Reading.{digit-add}
-use Rattle.prefix_int.proofs.Writing.{GoodCall, call-good, spell-last, spell-more, spell-fits, encode-short, encode-long}
+use Rattle.prefix_int.proofs.Writers.{leaves}
+use Rattle.prefix_int.proofs.Writing.{Good, call-good, spell-last, spell-more, spell-fits, encode-short, encode-long}
 
 -- an integer's answer, at a value and a position that are the same
 same-int : (f : ℕ) {v w d e : ℕ} → v ≡ w → d ≡ e
@@ -77,13 +77,13 @@ read-encode n f v at t h = go (ltb v (2 ^ n - 1)) refl
         (groups-spell 8 (v - (2 ^ n - 1)) t f (at + 1) 0 (2 ^ n - 1) (omega arith) ∙ same-int f w (omega arith))
 
 -- an integer's octets, wherever they stand in a list
-pub read-there : (s : List ℕ) (at n f v : ℕ) (t : List ℕ) → GoodCall n f → v < 2 ^ 63 → drop at s ≡ encode n f v ++ t
+pub read-there : (s : List ℕ) (at n f v : ℕ) (t : List ℕ) → Good 8 n f → v < 2 ^ 63 → drop at s ≡ encode n f v ++ t
     → intAt s at n ≡ done (record { flags = f; value = v; next = at + length (encode n f v) })
 read-there s at n f v t good small here = rw (le-ltb n 1 (good .low), le-ltb 8 n (good .high), here) (read-encode n f v at t small)
 
 -- what the octets of a call tell
 pub record Encoded (n f v : ℕ) (bytes : List ℕ) : Type 0 where
-  pub good : GoodCall n f
+  pub good : Good 8 n f
   pub value : v < 2 ^ 63
   pub bytes-are : bytes ≡ encode n f v
 
@@ -92,7 +92,7 @@ encoded n f v bytes h = go (goodCall n f) (ltb v (2 ^ 63)) refl refl h
   where
     go : (b c : Bool) → goodCall n f ≡ b → ltb v (2 ^ 63) ≡ c
         → cond b (cond c (done (encode n f v)) (refused CountTooLarge)) (refused BadCall) ≡ done bytes → Encoded n f v bytes
-    go true true p q h = record { good = call-good n f p; value = ltb-true v (2 ^ 63) q; bytes-are = let z = h in cc }
+    go true true p q h = record { good = call-good 8 n f p; value = ltb-true v (2 ^ 63) q; bytes-are = let z = h in cc }
     go true false p q h = let z : _≡_ {A = ℕ} 0 1 = cc in absurd (omega arith)
     go false c p q h = let z : _≡_ {A = ℕ} 0 1 = cc in absurd (omega arith)
 
@@ -100,10 +100,6 @@ encoded n f v bytes h = go (goodCall n f) (ltb v (2 ^ 63)) refl refl h
 pub round-trip : (l : List ℕ) (at n f v e : ℕ) → andThen (intBytes n f v) (fitted l at) ≡ done e
     → intAt (left (intBytes n f v) l at) at n ≡ done (record { flags = f; value = v; next = e })
 round-trip l at n f v e h =
-    let w = wrote (intBytes n f v) l at e h in
+    let w = leaves (intBytes n f v) l at e h in
     let c = encoded n f v (w .bytes) (w .given) in
-    let bytes = encode n f v in
-    let room : at + length bytes ≤ length l = rw (c .bytes-are) at (w .room) in
-    ap (λ (x : Answer (List ℕ)). intAt (left x l at) at n) (w .given ∙ ap done (c .bytes-are))
-    ∙ read-there (placed l at bytes) at n f v (drop (at + length bytes) l) (c .good) (c .value) (there l at bytes room)
-    ∙ same-int f refl (rw (c .bytes-are) at (w .next))
+    read-there _ at n f v _ (c .good) (c .value) (rw (c .bytes-are) at (w .here)) ∙ same-int f refl (rw (c .bytes-are) at (w .next))

@@ -13,8 +13,7 @@ use lib.ListN.{length, set}
 use lib.Pow.{pow-add, pow-mono}
 use lib.Seq.{sets}
 use borrow.Author.Tests.{lt-ltb, le-ltb, ltb-true, ltb-false}
-use Rattle.answers.specs.Answer.{Answer, done, refused, andThen}
-use Rattle.answers.specs.declared.Refusal.{Refusal}
+use Rattle.answers.specs.Answer.{done, refused}
 use Rattle.answers.specs.declared.Refusal.the-variants.{BadCall, CountTooLarge}
 use Rattle.prefix_int.specs.Integer.{spell, encode, goodCall, intBytes}
 
@@ -126,21 +125,23 @@ length-flags n f v = go (ltb v (2 ^ n - 1))
 
 -- ---- a call
 
-pub record GoodCall (n f : ℕ) : Type 0 where
+-- a width of k bits at the most, and flags that fit above it
+pub record Good (k n f : ℕ) : Type 0 where
   pub low : 1 ≤ n
-  pub high : n ≤ 8
-  pub flags : f < 2 ^ (8 - n)
+  pub high : n ≤ k
+  pub flags : f < 2 ^ (k - n)
 
-pub call-good : (n f : ℕ) → goodCall n f ≡ true → GoodCall n f
-call-good n f h = go (ltb n 1) (ltb 8 n) refl refl h
-  where
-    go : (s t : Bool) → ltb n 1 ≡ s → ltb 8 n ≡ t → cond s false (cond t false (ltb f (2 ^ (8 - n)))) ≡ true → GoodCall n f
-    go true t p q h = let z : _≡_ {A = ℕ} 0 1 = cc in absurd (omega arith)
-    go false true p q h = let z : _≡_ {A = ℕ} 0 1 = cc in absurd (omega arith)
-    go false false p q h = record { low = ltb-false n 1 p; high = ltb-false 8 n q; flags = ltb-true f (2 ^ (8 - n)) h }
+module _ (k n f : ℕ) where
+  pub call-good : cond (ltb n 1) false (cond (ltb k n) false (ltb f (2 ^ (k - n)))) ≡ true → Good k n f
+  call-good h = go (ltb n 1) (ltb k n) refl refl h
+    where
+      go : (s t : Bool) → ltb n 1 ≡ s → ltb k n ≡ t → cond s false (cond t false (ltb f (2 ^ (k - n)))) ≡ true → Good k n f
+      go true t p q h = let z : _≡_ {A = ℕ} 0 1 = cc in absurd (omega arith)
+      go false true p q h = let z : _≡_ {A = ℕ} 0 1 = cc in absurd (omega arith)
+      go false false p q h = record { low = ltb-false n 1 p; high = ltb-false k n q; flags = ltb-true f (2 ^ (k - n)) h }
 
-pub good-call : (n f : ℕ) → 1 ≤ n → n ≤ 8 → f < 2 ^ (8 - n) → goodCall n f ≡ true
-good-call n f low high flags = rw (le-ltb n 1 low, le-ltb 8 n high, lt-ltb f (2 ^ (8 - n)) flags)
+  pub good-call : Good k n f → cond (ltb n 1) false (cond (ltb k n) false (ltb f (2 ^ (k - n)))) ≡ true
+  good-call g = rw (le-ltb n 1 (g .low), le-ltb k n (g .high), lt-ltb f (2 ^ (k - n)) (g .flags))
 
 module _ (n f v : ℕ) where
   pub bytes-bad : goodCall n f ≡ false → intBytes n f v ≡ refused BadCall
@@ -151,26 +152,3 @@ module _ (n f v : ℕ) where
 
   pub bytes-good : goodCall n f ≡ true → v < 2 ^ 63 → intBytes n f v ≡ done (encode n f v)
   bytes-good h l = simp (h, lt-ltb v (2 ^ 63) l)
-
--- ---- a size
-
--- what a size tells: there are bytes to write, and so many
-pub record Sized (w : Answer (List ℕ)) (k : ℕ) : Type 0 where
-  pub bytes : List ℕ
-  pub given : w ≡ done bytes
-  pub many : length bytes ≡ k
-
-module _ (w : Answer (List ℕ)) where
-  pub sized : (k : ℕ) → andThen w (λ bytes. done (length bytes)) ≡ done k → Sized w k
-  sized k h = go w refl h
-    where
-      go : (v : Answer (List ℕ)) → w ≡ v → andThen v (λ bytes. done (length bytes)) ≡ done k → Sized w k
-      go (done bytes) p q = record { bytes = bytes; given = p; many = let z = q in cc }
-      go (refused r) p q = let z : _≡_ {A = ℕ} 0 1 = cc in absurd (omega arith)
-
-  pub unsized : (r : Refusal) → andThen w (λ bytes. done (length bytes)) ≡ refused r → w ≡ refused r
-  unsized r h = go w refl h
-    where
-      go : (v : Answer (List ℕ)) → w ≡ v → andThen v (λ bytes. done (length bytes)) ≡ refused r → w ≡ refused r
-      go (done bytes) p q = let z : _≡_ {A = ℕ} 0 1 = cc in absurd (omega arith)
-      go (refused r') p q = let z = q in cc

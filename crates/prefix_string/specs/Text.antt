@@ -1,12 +1,12 @@
 -- Document 01, "Plain strings: H bit, length, bytes. H set is refused once its byte is seen, before the length." (RFC 7541 5.2)
-use mathlib.Core.Bool.{Bool, true, false, cond}
+use mathlib.Core.Bool.{Bool, false, cond}
 use mathlib.Core.List.{List, _++_}
 use Prim.Native.Nat.{ℕ, _+_, _-_, _*_, _/_, _%_, _^_}
 use lib.Dec.{ltb, leb, eqb}
 use lib.ListN.{length, getD}
 use Rattle.answers.specs.Answer.{Answer, done, refused, andThen}
 use Rattle.answers.specs.declared.Refusal.the-variants.{UnexpectedEnd, HuffmanString, BadCall}
-use Rattle.prefix_int.specs.Integer.{Integer, intAt, encode}
+use Rattle.prefix_int.specs.Integer.{Integer, intAt, encode, sizeOf}
 use Rattle.prefix_string.specs.declared.TextRead.{TextRead}
 
 -- a string that was read: the bits above H, where its bytes start, how many there are, and the position past them
@@ -52,3 +52,7 @@ plain n f t = encode n (f * 2) (length t) ++ t
 
 abbrev pub textBytes : ℕ → ℕ → List ℕ → Answer (List ℕ)
 textBytes n f t = cond (goodText n f) (done (plain n f t)) (refused BadCall)
+
+-- how many bytes a string of m bytes takes: its length, with H and the flags, and then its bytes
+abbrev pub textSize : ℕ → ℕ → ℕ → Answer ℕ
+textSize n f m = cond (goodText n f) (andThen (sizeOf n m) (λ head. done (head + m))) (refused BadCall)

@@ -43,7 +43,7 @@ returns-2 c =
     writes-refused _ _ _ CountTooLarge (bytes-large (a .width) (a .flags) (a .value) (good (c .before)) (c .if2 .taken))
 
 bytes-of-requires : tie.Need-bytes-of-requires
-bytes-of-requires c κs = (call-good _ _ (good (c .before)) .high, omega arith)
+bytes-of-requires c κs = (call-good 8 _ _ (good (c .before)) .high, omega arith)
 
 returns-3 : tie.Need-returns-3
 returns-3 c = writes-full _ _ _ _ (bytes (c .before)) (omega (arith, many (c .before)))
@@ -61,7 +61,7 @@ store-requires : tie.Need-store-requires
 store-requires c κs =
     let b = c .before .before .before .before in
     let a = b .before .before .before .before .before .args in
-    let g = call-good _ _ (good (b .before .before)) in
+    let g = call-good 8 _ _ (good (b .before .before)) in
     let f : c .wide .result < 2 ^ (8 - a .width) = rw (c .wide .ensures) (g .flags) in
     (g .high, f, omega arith, rw (c .wide .ensures) (omega (arith, many b)))
 

@@ -1,0 +1,4 @@
+pub mod Record
+pub mod Ring
+pub mod Calls
+pub mod Promise
