@@ -1,4 +1,0 @@
-pub mod Record
-pub mod Ring
-pub mod Calls
-pub mod Promise

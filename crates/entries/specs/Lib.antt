@@ -1,4 +1,0 @@
-pub mod Entry
-pub mod Drop
-pub mod Latest
-pub mod Rules
