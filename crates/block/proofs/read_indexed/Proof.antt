@@ -28,7 +28,7 @@ enum-known-i-2 c = search needs
 
 returns : tie.Need-returns
 unfolding indexedLine
-returns c = 
+returns c =
     let a = c .before .before .before .before .before .before .before .before .args in
     let f = c .before .before .before .before .before .before .form-of in
     let w = ap (λ (g : Form). intAt (now (a .s)) (a .at) (g .width)) (f .ensures) in
@@ -37,7 +37,7 @@ returns c =
 
 returns-2 : tie.Need-returns-2
 unfolding indexedLine
-returns-2 c = 
+returns-2 c =
     let a = c .before .before .before .before .before .before .before .args in
     let f = c .before .before .before .before .before .form-of in
     let w = ap (λ (g : Form). intAt (now (a .s)) (a .at) (g .width)) (f .ensures) in

@@ -52,7 +52,7 @@ read-indexed-requires-2 c κs = search needs
 
 returns-2 : tie.Need-returns-2
 unfolding lineOf
-returns-2 c = 
+returns-2 c =
     let a = c .before .before .before .before .before .before .before .args in
     let k = c .before .before .before .line-kind in
     let told = c .before .enum-told .given .1 in
@@ -60,7 +60,7 @@ returns-2 c =
 
 returns-3 : tie.Need-returns-3
 unfolding lineOf
-returns-3 c = 
+returns-3 c =
     let a = c .before .before .before .before .before .before .before .args in
     let k = c .before .before .before .line-kind in
     let told = c .before .enum-told2 .given .1 in
@@ -68,7 +68,7 @@ returns-3 c =
 
 returns-4 : tie.Need-returns-4
 unfolding lineOf
-returns-4 c = 
+returns-4 c =
     let a = c .before .before .before .before .before .before .before .args in
     let k = c .before .before .before .line-kind in
     let told = c .before .enum-told3 .given .1 in
@@ -76,7 +76,7 @@ returns-4 c =
 
 returns-5 : tie.Need-returns-5
 unfolding lineOf
-returns-5 c = 
+returns-5 c =
     let a = c .before .before .before .before .before .before .before .args in
     let k = c .before .before .before .line-kind in
     let told = c .before .enum-told4 .given .1 in
@@ -84,7 +84,7 @@ returns-5 c =
 
 returns-6 : tie.Need-returns-6
 unfolding lineOf
-returns-6 c = 
+returns-6 c =
     let a = c .before .before .before .before .before .before .before .args in
     let k = c .before .before .before .line-kind in
     let told = c .before .enum-told5 .given .1 in

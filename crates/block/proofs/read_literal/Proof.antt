@@ -25,7 +25,7 @@ enum-known-t-2 c = search needs
 
 returns : tie.Need-returns
 unfolding literalLine
-returns c = 
+returns c =
     let a = c .before .before .before .before .before .before .before .args in
     let f = c .before .before .before .before .before .form-of in
     let w = ap (λ (g : Form). textsAt (now (a .s)) (a .at) (g .width)) (f .ensures) in
@@ -34,7 +34,7 @@ returns c =
 
 returns-2 : tie.Need-returns-2
 unfolding literalLine
-returns-2 c = 
+returns-2 c =
     let a = c .before .before .before .before .before .before .before .args in
     let f = c .before .before .before .before .before .form-of in
     let w = ap (λ (g : Form). textsAt (now (a .s)) (a .at) (g .width)) (f .ensures) in

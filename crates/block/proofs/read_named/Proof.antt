@@ -32,7 +32,7 @@ enum-known-t-2 c = search needs
 
 returns : tie.Need-returns
 unfolding namedLine
-returns c = 
+returns c =
     let a = c .before .before .before .before .before .before .before .before .before .args in
     let f = c .before .before .before .before .before .before .before .form-of in
     let w = c .before .before .before .before .before .read .ensures ∙ ap (λ (g : Form). intAt (now (a .s)) (a .at) (g .width)) (f .ensures) in
@@ -41,7 +41,7 @@ returns c =
 
 returns-2 : tie.Need-returns-2
 unfolding namedLine
-returns-2 c = 
+returns-2 c =
     let a = c .before .before .before .before .before .before .before .before .args in
     let f = c .before .before .before .before .before .before .form-of in
     let w = c .before .before .before .before .read .ensures ∙ ap (λ (g : Form). intAt (now (a .s)) (a .at) (g .width)) (f .ensures) in

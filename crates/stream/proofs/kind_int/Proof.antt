@@ -22,7 +22,7 @@ enum-known-i : tie.Need-enum-known-i
 enum-known-i c = search needs
 
 shared-slice-read-if1 : tie.Need-shared-slice-read-if1
-shared-slice-read-if1 c = 
+shared-slice-read-if1 c =
     let a = c .before .before .before .before .before .before .before .before .args in
     let r = c .before .before .before .before .read in
     let whole = sym (r .ensures) ∙ ap intRead (c .before .before .i .given .1) in
@@ -33,21 +33,21 @@ enum-known-i-2 : tie.Need-enum-known-i-2
 enum-known-i-2 c = search needs
 
 returns : tie.Need-returns
-returns c = 
+returns c =
     let a = c .before .before .before .before .before .before .before .before .before .before .before .args in
     let r = c .before .before .before .before .before .before .before .read in
     let f = c .before .before .before .before .before .before .before .before .before .form-of in
     kind-same (now (a .s)) (a .at) (a .kind) (f .result) (f .ensures) _ (sym (r .ensures) ∙ ap intRead (c .before .before .before .before .before .i .given .1)) (c .if1 .taken)
 
 returns-2 : tie.Need-returns-2
-returns-2 c = 
+returns-2 c =
     let a = c .before .before .before .before .before .before .before .before .before .before .before .args in
     let r = c .before .before .before .before .before .before .before .read in
     let f = c .before .before .before .before .before .before .before .before .before .form-of in
     kind-other (now (a .s)) (a .at) (a .kind) (f .result) (f .ensures) _ (sym (r .ensures) ∙ ap intRead (c .before .before .before .before .before .i .given .1)) (c .if1 .left)
 
 returns-3 : tie.Need-returns-3
-returns-3 c = 
+returns-3 c =
     let a = c .before .before .before .before .before .before .before .args in
     let r = c .before .before .before .read in
     let f = c .before .before .before .before .before .form-of in

@@ -19,7 +19,7 @@ past-limit-requires c κs = search needs
 
 returns : tie.Need-returns
 unfolding integerAt
-returns c = 
+returns c =
     let a = c .before .before .before .before .before .before .before .args in
     let h = sym (c .before .before .before .before .before .kind-int .ensures) ∙ ap intRead (c .before .before .before .i .given .1) in
     cut-past (kindInt (now (a .s)) (a .at) (a .kind)) (withinLimit (a .kind)) _ _ h (rw (sym (c .before .past-limit .ensures) ∙ c .if1 .taken)) refl
@@ -32,21 +32,21 @@ ends-early-requires c κs = search needs
 
 returns-2 : tie.Need-returns-2
 unfolding integerAt
-returns-2 c = 
+returns-2 c =
     let a = c .before .before .before .before .before .before .before .args in
     let h = sym (c .before .before .before .before .before .kind-int .ensures) ∙ ap intRead (c .before .before .before .i2 .given .1) in
     cut-early (kindInt (now (a .s)) (a .at) (a .kind)) (withinLimit (a .kind)) _ h (sym (c .before .ends-early .ensures) ∙ c .if2 .taken)
 
 returns-3 : tie.Need-returns-3
 unfolding integerAt
-returns-3 c = 
+returns-3 c =
     let a = c .before .before .before .before .before .before .before .args in
     let h = sym (c .before .before .before .before .before .kind-int .ensures) ∙ ap intRead (c .before .before .before .i .given .1) in
     cut-whole (kindInt (now (a .s)) (a .at) (a .kind)) (withinLimit (a .kind)) _ _ h (rw (sym (c .before .past-limit .ensures) ∙ c .if1 .left))
 
 returns-4 : tie.Need-returns-4
 unfolding integerAt
-returns-4 c = 
+returns-4 c =
     let a = c .before .before .before .before .before .before .before .args in
     let h = sym (c .before .before .before .before .before .kind-int .ensures) ∙ ap intRead (c .before .before .before .i2 .given .1) in
     cut-refused (kindInt (now (a .s)) (a .at) (a .kind)) (withinLimit (a .kind)) _ h (sym (c .before .ends-early .ensures) ∙ c .if2 .left)

@@ -30,7 +30,7 @@ ends-early-requires c κs = search needs
 
 returns : tie.Need-returns
 unfolding literalAt
-returns c = 
+returns c =
     let a = c .before .before .before .before .before .before .before .before .before .args in
     let f = c .before .before .before .before .before .before .before .form-of in
     let x = textsAt (now (a .s)) (a .at) 5 in
@@ -40,7 +40,7 @@ returns c =
 
 returns-2 : tie.Need-returns-2
 unfolding literalAt
-returns-2 c = 
+returns-2 c =
     let a = c .before .before .before .before .before .before .before .args in
     let f = c .before .before .before .before .before .form-of in
     let x = textsAt (now (a .s)) (a .at) 5 in
@@ -50,7 +50,7 @@ returns-2 c =
 
 returns-3 : tie.Need-returns-3
 unfolding literalAt
-returns-3 c = 
+returns-3 c =
     let a = c .before .before .before .before .before .before .before .before .before .args in
     let f = c .before .before .before .before .before .before .before .form-of in
     let x = textsAt (now (a .s)) (a .at) 5 in

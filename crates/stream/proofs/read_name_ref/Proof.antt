@@ -28,7 +28,7 @@ ends-early-requires c κs = search needs
 
 returns : tie.Need-returns
 unfolding nameRefAt
-returns c = 
+returns c =
     let a = c .before .before .before .before .before .before .before .before .args in
     let k = c .before .before .before .before .before .before .kind-int in
     let x = textAfter (now (a .s)) (kindInt (now (a .s)) (a .at) (Encoder InsertWithNameRef)) in
@@ -37,7 +37,7 @@ returns c =
 
 returns-2 : tie.Need-returns-2
 unfolding nameRefAt
-returns-2 c = 
+returns-2 c =
     let a = c .before .before .before .before .before .before .args in
     let k = c .before .before .before .before .kind-int in
     let x = textAfter (now (a .s)) (kindInt (now (a .s)) (a .at) (Encoder InsertWithNameRef)) in
@@ -46,7 +46,7 @@ returns-2 c =
 
 returns-3 : tie.Need-returns-3
 unfolding nameRefAt
-returns-3 c = 
+returns-3 c =
     let a = c .before .before .before .before .before .before .before .before .args in
     let k = c .before .before .before .before .before .before .kind-int in
     let x = textAfter (now (a .s)) (kindInt (now (a .s)) (a .at) (Encoder InsertWithNameRef)) in
