@@ -1,0 +1,9 @@
+pub mod Between
+pub mod Chain
+pub mod Rules
+pub mod Drop
+pub mod Last
+pub mod Strings
+pub mod Walking
+pub mod Dropping
+pub mod Searching

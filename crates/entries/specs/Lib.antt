@@ -1,0 +1,4 @@
+pub mod Entry
+pub mod Drop
+pub mod Latest
+pub mod Rules

@@ -1,0 +1,9 @@
+pub mod Walked
+pub mod Keeping
+pub mod Making
+pub mod Sources
+pub mod Planning
+pub mod Placing
+pub mod Growing
+pub mod Pushing
+pub mod Cutting

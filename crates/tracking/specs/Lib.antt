@@ -1,0 +1,4 @@
+pub mod Search
+pub mod Uses
+pub mod Queue
+pub mod Waiting
