@@ -6,7 +6,7 @@ use Prim.Native.Nat.{ℕ, _/_, _^_, _≤_, _<_}
 use native.Mathlib.Omega.{arith}
 use lib.ListN.{length, getD, take, drop}
 use borrow.Author.Tests.{lt-ltb, le-ltb}
-use Rattle.answers.specs.Answer.{Answer, done, refused, andThen}
+use Rattle.answers.specs.Answer.{Answer, done, andThen}
 use Rattle.answers.specs.Write.{fitted, left}
 use Rattle.forms.specs.Forms.{headOf, lineKind}
 use Rattle.forms.specs.declared.HeaderBlockField.{HeaderBlockField}
@@ -21,9 +21,7 @@ use Rattle.forms.specs.declared.Kind.the-variants.{Line}
 use Rattle.prefix_int.specs.Integer.{intAt}
 use Rattle.prefix_int.proofs.Bounds.{found}
 use Rattle.prefix_int.proofs.RoundTrip.{round-trip}
-use Rattle.prefix_string.specs.Text.{textAt}
-use Rattle.prefix_string.proofs.Bounds.{found-text}
-use Rattle.shapes.specs.Shapes.{valueWidth, TwoTexts, textAfter, twoTexts, textsAt}
+use Rattle.shapes.specs.Shapes.{textAfter, textsAt}
 use Rattle.shapes.proofs.Bounds.{found-int-text, found-texts}
 use Rattle.shapes.proofs.RoundTrip.{int-text-round-trip, texts-round-trip}
 use Rattle.block.specs.Lines.{
@@ -154,20 +152,6 @@ pub record LiteralStands (s : List ℕ) (at : ℕ) (n v : List ℕ) (e : ℕ) : 
   pub value-bytes : take (length v) (drop value s) ≡ v
   pub kind : lineKind (getD s at 0) ≡ Literal
 
--- a step that was done went on from what an earlier one found
-then-done : {A B : Type 0} (x : Answer A) (f : A → Answer B) (b : B) → andThen x f ≡ done b → (a : A) × (x ≡ done a) × (f a ≡ done b)
-then-done (done a) f b h = (a, refl, h)
-then-done (refused r) f b h = let z : _≡_ {A = ℕ} 0 1 = cc in absurd (omega arith)
-
--- the flags of two strings stand above the first one's H
-texts-flags : (s : List ℕ) (at n : ℕ) (r : TwoTexts) → textsAt s at n ≡ done r → r .flags ≡ getD s at 0 / 2 ^ n / 2
-unfolding textsAt
-texts-flags s at n r h =
-    let p = then-done (textAt s at n) _ r h in
-    let q = then-done (textAt s (p .0 .next) valueWidth) (twoTexts (p .0)) r (p .2) in
-    let same : p .0 .flags ≡ r .flags = let z = q .2 in cc in
-    sym same ∙ found-text s at n (p .0) (p .1) .flags
-
 pub literal-round-trip : (l : List ℕ) (at : ℕ) (n v : List ℕ) (e : ℕ) → length n < 2 ^ 63 → length v < 2 ^ 63
     → andThen (literalBytes n v) (fitted l at) ≡ done e → LiteralStands (left (literalBytes n v) l at) at n v e
 unfolding literalBytes lineOf literalLine
@@ -175,7 +159,7 @@ literal-round-trip l at n v e small-name small h =
     let s = left (literalBytes n v) l at in
     let w = texts-round-trip l at (headOf (Line Literal) false .width) (headOf (Line Literal) false .flags / 2) n v e small-name small h in
     let t = found-texts s at (widthOf Literal) _ (w .read) in
-    let first : getD s at 0 / 8 / 2 ≡ 2 = sym (texts-flags s at (widthOf Literal) _ (w .read)) in
+    let first : getD s at 0 / 8 / 2 ≡ 2 = sym (t .flags) in
     let kind = first-literal (getD s at 0) (omega arith) (omega arith) in
     record {
       name = w .name;

@@ -1,10 +1,11 @@
 -- What a read of two parts tells: where its strings start and end. Assumes nothing.
 use mathlib.Core.Path.{_≡_, refl, subst}
 use mathlib.Core.List.{List}
-use Prim.Native.Nat.{ℕ, _+_, _≤_, _<_}
+use Prim.Native.Nat.{ℕ, _+_, _/_, _^_, _≤_, _<_}
 use native.Mathlib.Omega.{arith}
-use lib.ListN.{length}
+use lib.ListN.{length, getD}
 use Rattle.answers.specs.Answer.{Answer, done, refused, andThen}
+use Rattle.answers.proofs.Then.{then-done}
 use Rattle.prefix_int.specs.Integer.{Integer}
 use Rattle.prefix_string.specs.Text.{Text, textAt}
 use Rattle.prefix_string.proofs.Bounds.{found-text}
@@ -42,29 +43,31 @@ found-int-text s (done i) r h = go (textAt s (i .next) valueWidth) refl h
           within = f .within;
         })
 
--- a name and a value that were read
-pub record FoundTexts (s : List ℕ) (at : ℕ) (r : TwoTexts) : Type 0 where
+-- a name and a value that were read; the flags stand above the name's H
+pub record FoundTexts (s : List ℕ) (at n : ℕ) (r : TwoTexts) : Type 0 where
+  pub flags : r .flags ≡ getD s at 0 / 2 ^ n / 2
   pub past : at < r .name
   pub between : r .name + r .nameLen < r .value
   pub next : r .value + r .valueLen ≡ r .next
   pub within : r .next ≤ length s
 
-pub found-texts : (s : List ℕ) (at n : ℕ) (r : TwoTexts) → textsAt s at n ≡ done r → FoundTexts s at r
+pub found-texts : (s : List ℕ) (at n : ℕ) (r : TwoTexts) → textsAt s at n ≡ done r → FoundTexts s at n r
 unfolding textsAt
-found-texts s at n r h = first (textAt s at n) refl h
-  where
-    second : (a : Text) (t : Answer Text) → textAt s at n ≡ done a → textAt s (a .next) valueWidth ≡ t → andThen t (twoTexts a) ≡ done r
-        → FoundTexts s at r
-    second a (refused q) p o h = let z : _≡_ {A = ℕ} 0 1 = cc in absurd (omega arith)
-    second a (done b) p o h =
-        let f = found-text s at n a p in
-        let g = found-text s (a .next) valueWidth b o in
-        let both : TwoTexts =
-        record { flags = a .flags; name = a .start; nameLen = a .len; value = b .start; valueLen = b .len; next = b .next } in
-        let e : both ≡ r = cc in
-        subst (FoundTexts s at) e (record { past = f .past; between = omega (arith, f .next, g .past); next = g .next; within = g .within })
-
-    first : (a : Answer Text) → textAt s at n ≡ a → andThen a (λ a. andThen (textAt s (a .next) valueWidth) (twoTexts a)) ≡ done r
-        → FoundTexts s at r
-    first (refused q) p h = let z : _≡_ {A = ℕ} 0 1 = cc in absurd (omega arith)
-    first (done a) p h = second a (textAt s (a .next) valueWidth) p refl h
+found-texts s at n r h =
+    let p = then-done (textAt s at n) _ r h in
+    let a = p .0 in
+    let q = then-done (textAt s (a .next) valueWidth) (twoTexts a) r (p .2) in
+    let b = q .0 in
+    let f = found-text s at n a (p .1) in
+    let g = found-text s (a .next) valueWidth b (q .1) in
+    let both : TwoTexts =
+    record { flags = a .flags; name = a .start; nameLen = a .len; value = b .start; valueLen = b .len; next = b .next } in
+    let e : both ≡ r = let z = q .2 in cc in
+    subst (FoundTexts s at n) e
+    (record {
+      flags = f .flags;
+      past = f .past;
+      between = omega (arith, f .next, g .past);
+      next = g .next;
+      within = g .within;
+    })
