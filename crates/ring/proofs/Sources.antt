@@ -10,11 +10,18 @@ use Rattle.arena.proofs.RingRead.{length-ringRead}
 use Rattle.arena.proofs.RingWrite.{write-append}
 use Rattle.entries.specs.Entry.{bytesOf, fieldOf}
 use Rattle.entries.proofs.Strings.{name-moved, field-moved}
-use Rattle.ring.specs.Ring.{live, keeps, entryIn, drawn, fieldFrom, sourceLive, placedBytes}
+use Rattle.ring.specs.Ring.{live, keeps, entryIn, drawn, fieldFrom, liveIn, sourceLive, placedBytes}
 use Rattle.ring.specs.declared.Ring.{Ring}
 use Rattle.ring.specs.declared.Source.{Source}
 use Rattle.ring.specs.declared.Source.the-variants.{Given, NameOf, CopyOf}
 use Rattle.ring.proofs.Keeping.{Kept, kept, length-live, bytes-most}
+
+-- a source that is live
+pub name-live : (m k : ℕ) (s : Source) → s ≡ NameOf k → liveIn m s ≡ true → k < m
+name-live m k s e h = ltb-true k m (rw e at h)
+
+pub copy-live : (m k : ℕ) (s : Source) → s ≡ CopyOf k → liveIn m s ≡ true → k < m
+copy-live m k s e h = ltb-true k m (rw e at h)
 
 pub name-length : (r : Ring) (a : List ℕ) (s : Source) (n v : List ℕ)
     → length (fieldFrom r a s n v .name) ≡ drawn (live r) s (length n) (length v) .name

@@ -120,6 +120,7 @@ placed a head Given e n v = ringWrite a head (n ++ v)
 placed a head (NameOf k) e n v = ringWrite (ringMove (e .name) a (e .start) head) (head + e .name) v
 placed a head (CopyOf k) e n v = ringMove (bytesOf e) a (e .start) head
 
+-- in a ring that keeps its rules these are the strings of the field, written at the head
 unfoldable pub placedBytes : Ring → List ℕ → Source → List ℕ → List ℕ → List ℕ
 placedBytes r a s n v = placed a (r .head) s (drawn (live r) s (length n) (length v)) n v
 

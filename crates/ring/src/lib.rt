@@ -3,7 +3,7 @@ ghost use mathlib.Core.Path.{_≡_};
 ghost use mathlib.Core.Bool.{true, cond};
 ghost use mathlib.Core.List.{List, map};
 ghost use mathlib.Core.Option.{none};
-ghost use Prim.Native.Nat.{ℕ, _+_, _-_, _<_, _≤_};
+ghost use Prim.Native.Nat.{ℕ, _+_, _-_, _%_, _<_, _≤_};
 ghost use lib.Dec.{leb};
 ghost use lib.ListN.{length};
 ghost use Rattle.arena.specs.Ring.{ring, longEnough};
@@ -132,16 +132,16 @@ fn is_live(source: Source, count: usize) -> bool
     }
 }
 
-// The entry in a slot.
+// The entry that comes after the first gone ones.
 fn entry_at<'a>(
     starts: &'a [u16; SLOTS],
     names: &'a [u16; SLOTS],
     values: &'a [u16; SLOTS],
-    i: usize,
+    gone: usize,
 ) -> Stored
-    requires { ⌜ i < slots ⌝ }
-    ensures { λ r. ⌜ entryOf r ≡ slotOf (now (starts .entry)) (now (names .entry)) (now (values .entry)) i ⌝ }
+    ensures { λ r. ⌜ entryOf r ≡ slotOf (now (starts .entry)) (now (names .entry)) (now (values .entry)) (gone % slots) ⌝ }
 {
+    let i = gone % SLOTS;
     Stored {
         start: wide(starts[i]),
         name: wide(names[i]),
@@ -170,18 +170,14 @@ fn entry_from<'a>(
             value,
         },
         Source::NameOf(k) => {
-            let i = (dropped + k) % SLOTS;
-            let e = entry_at(starts, names, values, i);
+            let e = entry_at(starts, names, values, dropped + k);
             Stored {
                 start: e.start,
                 name: e.name,
                 value,
             }
         }
-        Source::CopyOf(k) => {
-            let i = (dropped + k) % SLOTS;
-            entry_at(starts, names, values, i)
-        }
+        Source::CopyOf(k) => entry_at(starts, names, values, dropped + k),
     }
 }
 

@@ -42,7 +42,7 @@ not-yet-used d i us h a g = go (ltb 0 (usesIn a us)) refl
     go true e = absurd (omega (arith, used-live d i us h a (ltb-true 0 (usesIn a us) e) .1))
     go false e = omega (arith, ltb-false 0 (usesIn a us) e)
 
-pub lowest-low : (low : ℕ) (us : List Use) → lowest low us ≤ low
+lowest-low : (low : ℕ) (us : List Use) → lowest low us ≤ low
 lowest-low low [] = omega arith
 lowest-low low (u ∷ us) = omega (arith, lowest-low (min low (u .entry)) us)
 
@@ -99,13 +99,6 @@ module _ (d i : ℕ) (s : Section) (h : sectionLive d i s ≡ true) where
 pub section-live : (d i : ℕ) (s : Section) → s .used ≤ sectionEntries → allLive d i (usesOf (s .from) (s .used) (s .uses)) ≡ true → sectionLive d i s ≡ true
 section-live d i s h a = rw (le-leb (s .used) sectionEntries h, a)
 
-module _ (d i d′ i′ : ℕ) (more : i ≤ i′) (s : Section) (h : sectionLive d i s ≡ true) where
-  pub section-still : ((a : ℕ) → 0 < usesIn a (sectionOf s .uses) → d′ < a) → sectionLive d′ i′ s ≡ true
-  section-still f = section-live d′ i′ s (few-uses d i s h) (still-live d i d′ i′ more (sectionOf s .uses) (uses-live d i s h) f)
-
-  pub section-above : (low : ℕ) → d′ < lowest low (sectionOf s .uses) → sectionLive d′ i′ s ≡ true
-  section-above low g = section-still (λ a z. omega (arith, lowest-used low (sectionOf s .uses) a z))
-
 -- ---- the queue
 
 -- an entry that queued sections use is one that the first uses, or that the others use
@@ -125,7 +118,7 @@ queued-live d i (s ∷ q) h a z =
     (used-live d i (sectionOf s .uses) (uses-live d i s (and-left (sectionLive d i s) _ h)) a)
     (queued-live d i q (and-right (sectionLive d i s) _ h) a)
 
-pub all-lowest-low : (low : ℕ) (q : List Section) → lowestOfAll low q ≤ low
+all-lowest-low : (low : ℕ) (q : List Section) → lowestOfAll low q ≤ low
 all-lowest-low low [] = omega arith
 all-lowest-low low (s ∷ q) =
     omega (arith, all-lowest-low (lowest low (sectionOf s .uses)) q, lowest-low low (sectionOf s .uses))
@@ -160,7 +153,9 @@ module _ (d i d′ i′ : ℕ) (more : i ≤ i′) where
       → ((a : ℕ) → 0 < usesQueued a (map sectionOf q) → d′ < a) → allSectionsLive d′ i′ q ≡ true
   still-queued [] h f = refl
   still-queued (s ∷ q) h f =
-      rw (section-still d i d′ i′ more s (and-left (sectionLive d i s) _ h) (λ a z. f a (omega arith)))
+      let first = and-left (sectionLive d i s) _ h in
+      let live = still-live d i d′ i′ more (sectionOf s .uses) (uses-live d i s first) (λ a z. f a (omega arith)) in
+      rw (section-live d′ i′ s (few-uses d i s first) live)
       (still-queued q (and-right (sectionLive d i s) _ h) (λ a z. f a (omega arith)))
 
   pub queued-above : (low : ℕ) (q : List Section) → allSectionsLive d i q ≡ true → d′ < lowestOfAll low q → allSectionsLive d′ i′ q ≡ true

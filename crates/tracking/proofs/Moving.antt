@@ -1,11 +1,11 @@
 -- What the loop of `release` keeps: closing up what is left gives what closing up the whole gives; and `releasing` by its cases. Assumes nothing.
 use mathlib.Core.Path.{_≡_, refl, _∙_}
 use mathlib.Core.Bool.{true, false}
-use mathlib.Core.List.{List, [], _∷_, _++_}
+use mathlib.Core.List.{List}
 use Prim.Native.Nat.{ℕ, zero, suc, _+_, _-_, _≤_, _<_}
 use native.Mathlib.Numerals.{add-one}
 use native.Mathlib.Omega.{arith}
-use lib.ListN.{length, getD, take, drop, set, length-set}
+use lib.ListN.{length, getD, take, set, length-set}
 use lib.Seq.{drop-cons, take-suc-set, drop-set-lt, append-snoc, set-split}
 use borrow.Author.Tests.{lt-ltb, le-ltb, le-leb, lt-leb}
 use Rattle.model.specs.Bounds.{queuePlaces}
@@ -38,9 +38,7 @@ module _ {A : Type 0} (empty : A) (l : List A) where
         same : closedUp empty (set p i next) n (suc i) ≡ closedUp empty p n i
         same =
             let m : n - 1 - i ≡ suc (n - 1 - suc i) = omega arith in
-            let front : take (suc i) (set p i next) ≡ take i p ++ (next ∷ []) = take-suc-set p i next (omega (arith, w .room)) in
-            let mid : drop (suc i) p ≡ next ∷ drop (suc (suc i)) p = drop-cons p (suc i) d (omega (arith, w .room)) in
-            rw (m, front, drop-set-lt (suc (suc i)) p i next (omega arith), drop-set-lt n p i next (omega arith), append-snoc, mid)
+            rw (m, take-suc-set p i next (omega (arith, w .room)), drop-set-lt (suc (suc i)) p i next (omega arith), drop-set-lt n p i next (omega arith), append-snoc, drop-cons p (suc i) d (omega (arith, w .room)))
 
     pub cleared : n - 1 ≤ i → set p (n - 1) empty ≡ closedUp empty l n from
     cleared h =

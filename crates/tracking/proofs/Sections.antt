@@ -1,4 +1,5 @@
--- The queue in its array and in the model: pushing and releasing are the same in both, and releases of two streams commute to the last place. Assumes nothing.
+-- The queue in its array and in the model: pushing and releasing are the same in both, keep bounds and the rule, and releases of two streams
+-- commute to the last place. Assumes nothing.
 use mathlib.Core.Path.{_≡_, refl, sym, ap, _∙_}
 use mathlib.Core.Bool.{Bool, true, false, cond}
 use mathlib.Core.List.{List, [], _∷_, _++_, map, append-assoc, map-append}

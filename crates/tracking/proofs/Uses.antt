@@ -111,16 +111,16 @@ module _ (d i from : ℕ) where
 -- ---- in the model
 
 module _ (from a x : ℕ) (low : from ≤ a) (offset : x ≡ a - from) where
-  other-entry : (u : Held) → (u .offset ≡ x → ⊥) → eqb (from + u .offset) a ≡ false
-  other-entry u h = ne-eqb (from + u .offset) a (λ e. h (omega arith))
+  same-entry : (u : Held) → (u .offset ≡ x → ⊥) → eqb (from + u .offset) a ≡ false
+  same-entry u h = ne-eqb (from + u .offset) a (λ e. h (omega arith))
 
   notes : Passing (λ (u : Held). u .offset) x (useOf from) (once x) (λ (room : ℕ) (l : List Held). noteIn a room (map (useOf from) l))
   notes =
       record {
         adds = λ room h. let e : from + x ≡ a = omega arith in rw (lt-ltb 0 room h, e);
         ends = refl;
-        goes-on = λ room u l r h e. rw (other-entry u h, e);
-        fails = λ room u l h e. rw (other-entry u h, e);
+        goes-on = λ room u l r h e. rw (same-entry u h, e);
+        fails = λ room u l h e. rw (same-entry u h, e);
       }
 
   module _ (us : List Held) (n : ℕ) (h : n ≤ sectionEntries) (long : length us ≡ sectionEntries) where
@@ -175,6 +175,15 @@ module _ (from a x : ℕ) (low : from ≤ a) (offset : x ≡ a - from) where
       pub noted-new : i < a → n < sectionEntries
           → noting us n x ≡ record { fits = true; used = n + 1; uses = set us n (record { offset = x; count = 1 }) }
       noted-new g = noted-fresh (not-yet-used d i (usesOf from n us) live a g)
+
+      -- there is no place for an entry that was not inserted before
+      pub fresh-full : i < a → sectionEntries ≤ n → noting us n x .fits ≡ false
+      fresh-full z g =
+          let e : a ≡ from + x = omega arith in
+          let count : length (take n us) ≡ n = length-take-le n us (omega arith) in
+          let free : n ≤ placeOf x (take n us) =
+          rw count at (no-uses d i from (take n us) x live (rw e at (not-yet-used d i (usesOf from n us) live a z))) in
+          rw (no-place us n x h (placeOf x (take n us)) refl free g)
 
       pub noted-live : isLiveUse d i (record { entry = a; count = 1 }) ≡ true
           → allLive d i (usesOf from (noting us n x .used) (noting us n x .uses)) ≡ true

@@ -1,33 +1,22 @@
 -- `ring::entry_from`: by the source; a live entry is read off its slot. Assumes nothing.
-use mathlib.Core.Path.{_≡_, sym, ap, _∙_}
-use mathlib.Core.Bool.{true}
+use mathlib.Core.Path.{sym, ap, _∙_}
 use Prim.Native.Nat.{_-_, _<_}
 use native.Mathlib.Omega.{arith}
 use borrow.Author.Needs.{needs}
-use borrow.Author.Tests.{ltb-true}
 use Rattle.entries.specs.Entry.{Entry}
 use Rattle.entries.proofs.Between.{between-at}
-use Rattle.ring.specs.Ring.{liveIn}
-use Rattle.ring.specs.declared.Source.the-variants.{NameOf, CopyOf}
+use Rattle.ring.proofs.Sources.{name-live, copy-live}
 use Rattle.ring.proofs.entry_from.Statement.{statement}
 use Rattle.ring.proofs.entry_from.Tie as tie
 
 -- the source is live
 named : (c : tie.After-known-told)
     → c .before .source .given .0 .0 < c .before .before .before .args .inserted - c .before .before .before .args .dropped
-named c =
-    let g = c .before .before .before in
-    let live : liveIn (g .args .inserted - g .args .dropped) (NameOf (c .before .source .given .0 .0)) ≡ true =
-    rw (c .before .source .given .1) at (g .pre) in
-    ltb-true _ _ live
+named c = name-live _ _ _ (c .before .source .given .1) (c .before .before .before .pre)
 
 copied : (c : tie.After-known-told2)
     → c .before .source2 .given .0 .0 < c .before .before .before .args .inserted - c .before .before .before .args .dropped
-copied c =
-    let g = c .before .before .before in
-    let live : liveIn (g .args .inserted - g .args .dropped) (CopyOf (c .before .source2 .given .0 .0)) ≡ true =
-    rw (c .before .source2 .given .1) at (g .pre) in
-    ltb-true _ _ live
+copied c = copy-live _ _ _ (c .before .source2 .given .1) (c .before .before .before .pre)
 
 enum-told : tie.Need-enum-told
 enum-told c = search needs
@@ -35,20 +24,20 @@ enum-told c = search needs
 enum-known-source : tie.Need-enum-known-source
 enum-known-source c = search needs
 
-add-i : tie.Need-add-i
-add-i c = omega (arith, named c)
+add-entry-at : tie.Need-add-entry-at
+add-entry-at c = omega (arith, named c)
 
 entry-at-requires : tie.Need-entry-at-requires
-entry-at-requires c κs = search needs
+entry-at-requires c κs = tt
 
 enum-known-source-2 : tie.Need-enum-known-source-2
 enum-known-source-2 c = search needs
 
-add-i-2 : tie.Need-add-i-2
-add-i-2 c = omega (arith, copied c)
+add-entry-at-2 : tie.Need-add-entry-at-2
+add-entry-at-2 c = omega (arith, copied c)
 
 entry-at-requires-2 : tie.Need-entry-at-requires-2
-entry-at-requires-2 c κs = search needs
+entry-at-requires-2 c κs = tt
 
 returns : tie.Need-returns
 returns c = rw (c .enum-told .given .1)
@@ -70,10 +59,10 @@ entry-from-spec =
     (tie.spec
     enum-told
     enum-known-source
-    add-i
+    add-entry-at
     entry-at-requires
     enum-known-source-2
-    add-i-2
+    add-entry-at-2
     entry-at-requires-2
     returns
     returns-2

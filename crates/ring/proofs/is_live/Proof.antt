@@ -1,7 +1,7 @@
 -- `ring::is_live`: by the source. Assumes nothing.
 use mathlib.Core.Path.{sym, ap}
-use Rattle.ring.specs.Ring.{liveIn}
 use borrow.Author.Needs.{needs}
+use Rattle.ring.specs.Ring.{liveIn}
 use Rattle.ring.proofs.is_live.Statement.{statement}
 use Rattle.ring.proofs.is_live.Tie as tie
 

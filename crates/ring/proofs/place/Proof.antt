@@ -1,6 +1,6 @@
 -- `ring::place`: by the source, the calls that put the strings to the head. Assumes nothing.
-use Rattle.ring.proofs.Placing.{written, name-first, copied}
 use borrow.Author.Needs.{needs}
+use Rattle.ring.proofs.Placing.{written, name-first, copied}
 use Rattle.ring.proofs.place.Statement.{statement}
 use Rattle.ring.proofs.place.Tie as tie
 

@@ -19,7 +19,7 @@ returns : tie.Need-returns
 returns c = sym (breaks-rule _ _ (sym (c .before .waiting-ok .ensures) ∙ not-true _ (c .if1 .taken)))
 
 returns-2 : tie.Need-returns-2
-returns-2 c = sym (no-more _ _ (ok (c .before .before)) (omega arith))
+returns-2 c = sym (no-more _ _ (ok (c .before .before)) (c .if2 .taken))
 
 value-at-requires : tie.Need-value-at-requires
 value-at-requires c κs = few-values _ (ok (c .before .before))
@@ -28,7 +28,7 @@ block-again-requires : tie.Need-block-again-requires
 block-again-requires c κs =
     let at = c .before .before in
     let below = at .before in
-    (ok (below .before .before), omega arith, at .value-at .ensures, c .if3 .taken)
+    (ok (below .before .before), below .if2 .left, at .value-at .ensures, c .if3 .taken)
 
 returns-3 : tie.Need-returns-3
 returns-3 c = c .block-again .ensures
@@ -37,7 +37,7 @@ block-first-requires : tie.Need-block-first-requires
 block-first-requires c κs =
     let at = c .before .before in
     let below = at .before in
-    (ok (below .before .before), omega arith, omega (arith, at .value-at .ensures))
+    (ok (below .before .before), below .if2 .left, omega (arith, at .value-at .ensures))
 
 returns-4 : tie.Need-returns-4
 returns-4 c = c .block-first .ensures

@@ -6,7 +6,7 @@ use Rattle.tracking.proofs.block_first.Statement.{statement}
 use Rattle.tracking.proofs.block_first.Tie as tie
 
 returns : tie.Need-returns
-returns c = let p = c .before .pre in sym (no-place _ _ (p .0) (p .1) _ refl (p .2) (omega arith))
+returns c = let p = c .before .pre in sym (no-place _ _ (p .0) (p .1) _ refl (p .2) (c .if1 .taken))
 
 mul-values : tie.Need-mul-values
 mul-values c = omega arith

@@ -69,9 +69,7 @@ loop-less c = omega arith
 loop-again : tie.Need-loop-again Inv-loop μ-loop
 loop-again c =
     let turn = c .before .before .before .before in
-    one _ _ _ _ _ _ _ (turn .before .loop .inv) pastEnd _ (turn .loop-test .taken)
-    (λ m. rw (live c))
-    (λ m. rw (c .before .before .section-floor .ensures, floor-low _ _ _ _ (live c)))
+    one _ _ _ _ _ _ _ (turn .before .loop .inv) pastEnd _ (turn .loop-test .taken) (λ m. rw (live c)) (λ m. rw (c .before .before .section-floor .ensures, floor-low _ _ _ _ (live c)))
 
 returns-3 : tie.Need-returns-3 Inv-loop μ-loop
 returns-3 c =

@@ -15,8 +15,7 @@ use Rattle.tracking.proofs.section_floor.Tie as tie
 
 abbrev Inv-loop : tie.InvT-loop
 Inv-loop dropped inserted low section used from least₀ i₀ least i =
-    Walking (λ (l : List Held). allLive dropped inserted (map (useOf from) l))
-    (λ (x : ℕ) (l : List Held). lowest x (map (useOf from) l)) low used (section .uses) least i
+    Walking (λ (l : List Held). allLive dropped inserted (map (useOf from) l)) (λ (x : ℕ) (l : List Held). lowest x (map (useOf from) l)) low used (section .uses) least i
 
 abbrev μ-loop : tie.MeasureT-loop
 μ-loop dropped inserted low section used from least₀ i₀ least i = used - i

@@ -6,7 +6,7 @@ use Rattle.tracking.proofs.use_first.Statement.{statement}
 use Rattle.tracking.proofs.use_first.Tie as tie
 
 returns : tie.Need-returns
-returns c = let p = c .before .pre in sym (no-place _ _ _ (p .0) _ refl (p .1) (omega arith))
+returns c = let p = c .before .pre in sym (no-place _ _ _ (p .0) _ refl (p .1) (c .if1 .taken))
 
 mul-next : tie.Need-mul-next
 mul-next c = omega arith

@@ -1,7 +1,7 @@
 -- `ring::Ring::sound`: the count is tested, and `entries::check` tells the rest. Assumes nothing.
+use borrow.Author.Needs.{needs}
 use borrow.Author.Tests.{le-leb, lt-leb}
 use Rattle.ring.specs.Ring.{keeps}
-use borrow.Author.Needs.{needs}
 use Rattle.ring.proofs.Ring.sound.Statement.{statement}
 use Rattle.ring.proofs.Ring.sound.Tie as tie
 

@@ -1,0 +1,127 @@
+-- A find to the last field is a find in the model, and keeps the rules; and its answer by the tests. Assumes nothing.
+use mathlib.Core.Path.{_≡_, refl}
+use mathlib.Core.Bool.{Bool, true, false, cond}
+use mathlib.Core.List.{List}
+use mathlib.Core.Option.{Option, some, none}
+use Prim.Native.Nat.{ℕ}
+use lib.ListN.{length}
+use Rattle.answers.specs.Table.{found}
+use Rattle.answers.specs.declared.Find.{Find}
+use Rattle.answers.specs.declared.Find.the-variants.{Found}
+use Rattle.answers.specs.declared.Lookup.the-variants.{NotFound}
+use Rattle.answers.specs.declared.Refusal.the-variants.{NoSection, TrackingFull, BadCall}
+use Rattle.arena.specs.Ring.{longEnough}
+use Rattle.entries.proofs.Chain.{and-left, and-right}
+use Rattle.model.specs.Bounds.{sectionEntries}
+use Rattle.model.specs.Section as model
+use Rattle.model.specs.Table.{Open}
+use Rattle.tracking.specs.declared.Noted.{Noted}
+use Rattle.dynamic.specs.Calls.{latestOf, notedIn, withUses, withNoted, looked, referTo, foundAt, find}
+use Rattle.dynamic.specs.Promise.{outcome, Finds}
+use Rattle.dynamic.specs.Record.{usesHere, view, sound, usable}
+use Rattle.dynamic.specs.declared.Looked.{Looked}
+use Rattle.dynamic.specs.declared.Table.{Table}
+use Rattle.dynamic.proofs.Refer.{found-within, Refers, entryAt, noted-sound, noted-here}
+
+-- ---- the answer by the tests
+
+module _ (t : Table) (a n v : List ℕ) where
+  pub find-unsound : sound t ≡ false → looked t (Find.Refused BadCall) ≡ find t a n v
+  unfolding find
+  find-unsound h = rw h
+
+  pub find-short : sound t ≡ true → longEnough a ≡ false → looked t (Find.Refused BadCall) ≡ find t a n v
+  unfolding find
+  find-short rules h = rw (rules, h)
+
+  module _ (rules : sound t ≡ true) (long : longEnough a ≡ true) where
+    pub find-closed : t .active ≡ false → looked t (Find.Refused NoSection) ≡ find t a n v
+    unfolding find
+    find-closed h = rw (rules, long, h)
+
+    module _ (active : t .active ≡ true) where
+      pub find-nothing : latestOf t a n v true ≡ none → looked t (Found NotFound) ≡ find t a n v
+      unfolding find
+      find-nothing h = rw (rules, long, active, h)
+
+      module _ (k : ℕ) (h : latestOf t a n v true ≡ some k) (r : Noted) (e : r ≡ notedIn (t .section) (entryAt t k)) where
+        pub find-full : r .fits ≡ false → looked t (Find.Refused TrackingFull) ≡ find t a n v
+        unfolding find
+        find-full f = rw (rules, long, active, h, ← e, f)
+
+        pub find-at : r .fits ≡ true → looked (withNoted r t) (Found (model.lookupOf (t .base) (entryAt t k))) ≡ find t a n v
+        unfolding find
+        find-at f = rw (rules, long, active, h, ← e, f)
+
+-- ---- in the model
+
+-- the open section of a record
+abbrev pub openHere : Table → Open
+openHere t = record { stream = t .section .stream; base = t .base; uses = usesHere (t .section) }
+
+module _ (t : Table) (a n v : List ℕ) (rules : sound t ≡ true) (long : longEnough a ≡ true) (active : t .active ≡ true)
+    (uses : length (t .section .uses) ≡ sectionEntries) where
+  refer-model : (k : ℕ) → latestOf t a n v true ≡ some k
+      → outcome (foundAt t (some k) .table) a (found (foundAt t (some k) .found)) ≡ model.foundAt (view t a) (openHere t) (some k)
+  unfolding view
+  refer-model k h =
+      let w : Refers t k = record { rules = rules; active = active; long = uses; live = found-within (t .ring) a _ n v true k h } in
+      rw (noted-here t k w) (go (notedIn (t .section) (entryAt t k)) (notedIn (t .section) (entryAt t k) .fits))
+    where
+      go : (r : Noted) (b : Bool)
+          → outcome
+          (cond b (looked (withNoted r t) (Found (model.lookupOf (t .base) (entryAt t k)))) (looked t (Find.Refused TrackingFull)) .table) a
+          (found (cond b (looked (withNoted r t) (Found (model.lookupOf (t .base) (entryAt t k)))) (looked t (Find.Refused TrackingFull)) .found))
+          ≡ model.referTo (view t a) (openHere t) (cond b (some (usesHere (withUses (t .section) r))) none) (model.lookupOf (t .base) (entryAt t k))
+      go r true = rw active
+      go r false = refl
+
+  refer-kept : (k : ℕ) → latestOf t a n v true ≡ some k → sound (foundAt t (some k) .table) ≡ true
+  refer-kept k h =
+      let w : Refers t k = record { rules = rules; active = active; long = uses; live = found-within (t .ring) a _ n v true k h } in
+      go (notedIn (t .section) (entryAt t k)) (notedIn (t .section) (entryAt t k) .fits) (noted-sound t k w)
+    where
+      go : (r : Noted) (b : Bool) → sound (withNoted r t) ≡ true
+          → sound (cond b (looked (withNoted r t) (Found (model.lookupOf (t .base) (entryAt t k)))) (looked t (Find.Refused TrackingFull)) .table) ≡ true
+      go r true s = s
+      go r false s = rules
+
+  latest-model : (o : Option ℕ) → latestOf t a n v true ≡ o
+      → outcome (foundAt t o .table) a (found (foundAt t o .found)) ≡ model.foundAt (view t a) (openHere t) o
+  latest-model (some k) h = refer-model k h
+  latest-model none h = refl
+
+  latest-kept : (o : Option ℕ) → latestOf t a n v true ≡ o → sound (foundAt t o .table) ≡ true
+  latest-kept (some k) h = refer-kept k h
+  latest-kept none h = rules
+
+module _ (t : Table) (a n v : List ℕ) (uses : length (t .section .uses) ≡ sectionEntries) (u : usable t a ≡ true) where
+  rules : sound t ≡ true
+  rules = and-left (sound t) _ u
+
+  long : longEnough a ≡ true
+  long = and-right (sound t) _ u
+
+  find-model : outcome (find t a n v .table) a (found (find t a n v .found)) ≡ model.find (view t a) (record { name = n; value = v })
+  unfolding find model.find view
+  find-model = rw (rules, long) (go (t .active) refl)
+    where
+      go : (b : Bool) → t .active ≡ b
+          → outcome (cond b (foundAt t (latestOf t a n v true)) (looked t (Find.Refused NoSection)) .table) a
+          (found (cond b (foundAt t (latestOf t a n v true)) (looked t (Find.Refused NoSection)) .found))
+          ≡ model.inSection (view t a) (cond b (some (openHere t)) none) (λ o. model.foundAt (view t a) o (latestOf t a n v true))
+      go true h = latest-model t a n v rules long h uses _ refl
+      go false h = refl
+
+  find-kept : usable (find t a n v .table) a ≡ true
+  unfolding find
+  find-kept = rw (rules, long, go (t .active) refl)
+    where
+      go : (b : Bool) → t .active ≡ b
+          → sound (cond b (foundAt t (latestOf t a n v true)) (looked t (Find.Refused NoSection)) .table) ≡ true
+      go true h = latest-kept t a n v rules long h uses _ refl
+      go false h = rules
+
+pub finds : (t : Table) (a n v : List ℕ) (r : Looked) → length (t .section .uses) ≡ sectionEntries → r ≡ find t a n v → Finds t a n v r
+finds t a n v r uses e =
+    record { next = e; model = λ u. rw e (find-model t a n v uses u); kept = λ u. rw e (find-kept t a n v uses u) }

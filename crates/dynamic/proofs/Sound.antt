@@ -1,0 +1,79 @@
+-- The rules of a record as facts, and back. Assumes nothing.
+use mathlib.Core.Path.{_≡_, refl}
+use mathlib.Core.Bool.{Bool, true, false, _&&_}
+use Prim.Native.Nat.{ℕ, _+_, _≤_, _<_}
+use lib.Dec.{leb, ltb}
+use lib.ListN.{take}
+use borrow.Author.Tests.{leb-true, ltb-true, le-leb, lt-ltb}
+use Rattle.entries.specs.Entry.{slots}
+use Rattle.entries.proofs.Chain.{and-left, and-right}
+use Rattle.model.specs.Bounds.{blockedSections, queuePlaces}
+use Rattle.ring.specs.Ring.{largestCount, keeps}
+use Rattle.tracking.specs.Queue.{sectionLive, allSectionsLive}
+use Rattle.tracking.specs.Waiting.{keepsCount}
+use Rattle.tracking.specs.declared.Section.{Section}
+use Rattle.dynamic.specs.Record.{openRules, openKeeps, queueKeeps, countsWithin, sound}
+use Rattle.dynamic.specs.declared.Table.{Table}
+
+pub record Sound (t : Table) : Type 0 where
+  pub ring : keeps (t .ring) ≡ true
+  pub known : t .known ≤ largestCount
+  pub most : t .most < blockedSections
+  pub waiting : keepsCount (t .waiting) ≡ true
+  pub queued : t .queue .queued ≤ queuePlaces
+  pub live : allSectionsLive (t .ring .dropped) (t .ring .inserted) (take (t .queue .queued) (t .queue .places)) ≡ true
+  pub section : openKeeps t ≡ true
+
+pub facts : (t : Table) → sound t ≡ true → Sound t
+unfolding sound
+facts t h =
+    let h1 = and-right (keeps (t .ring)) _ h in
+    let c = and-left (countsWithin t) _ h1 in
+    let h2 = and-right (countsWithin t) _ h1 in
+    let h3 = and-right (keepsCount (t .waiting)) _ h2 in
+    let q = and-left (queueKeeps t) _ h3 in
+    record {
+      ring = and-left (keeps (t .ring)) _ h;
+      known = leb-true _ _ (and-left (leb (t .known) largestCount) _ c);
+      most = ltb-true _ _ (and-right (leb (t .known) largestCount) _ c);
+      waiting = and-left (keepsCount (t .waiting)) _ h2;
+      queued = leb-true _ _ (and-left (leb (t .queue .queued) queuePlaces) _ q);
+      live = and-right (leb (t .queue .queued) queuePlaces) _ q;
+      section = and-right (queueKeeps t) _ h3;
+    }
+
+pub is-sound : (t : Table) → Sound t → sound t ≡ true
+unfolding sound
+is-sound t s =
+    rw (s .ring, le-leb _ _ (s .known), lt-ltb _ _ (s .most), s .waiting, le-leb _ _ (s .queued), s .live) (s .section)
+
+-- an open section
+pub record Opened (base : ℕ) (s : Section) (d i : ℕ) : Type 0 where
+  pub live : sectionLive d i s ≡ true
+  pub base-within : base ≤ i
+  pub from-low : s .from ≤ d
+  pub every : i ≤ s .from + slots + s .used
+
+pub opened : (base : ℕ) (s : Section) (d i : ℕ) → openRules base s d i ≡ true → Opened base s d i
+opened base s d i h =
+    let h1 = and-right (sectionLive d i s) _ h in
+    let h2 = and-right (leb base i) _ h1 in
+    record {
+      live = and-left (sectionLive d i s) _ h;
+      base-within = leb-true _ _ (and-left (leb base i) _ h1);
+      from-low = leb-true _ _ (and-left (leb (s .from) d) _ h2);
+      every = leb-true _ _ (and-right (leb (s .from) d) _ h2);
+    }
+
+pub is-opened : (base : ℕ) (s : Section) (d i : ℕ) → Opened base s d i → openRules base s d i ≡ true
+is-opened base s d i o = rw (o .live, le-leb _ _ (o .base-within), le-leb _ _ (o .from-low), le-leb _ _ (o .every))
+
+module _ (t : Table) where
+  pub open-facts : Sound t → t .active ≡ true → Opened (t .base) (t .section) (t .ring .dropped) (t .ring .inserted)
+  open-facts s a = opened _ _ _ _ (rw a at (s .section))
+
+  pub open-keeps : t .active ≡ true → Opened (t .base) (t .section) (t .ring .dropped) (t .ring .inserted) → openKeeps t ≡ true
+  open-keeps a o = rw a (is-opened _ _ _ _ o)
+
+  pub closed-keeps : t .active ≡ false → openKeeps t ≡ true
+  closed-keeps a = rw a

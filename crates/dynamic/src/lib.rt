@@ -1,0 +1,720 @@
+// The dynamic table, RFC 9204 3.2: its record, the calls on it, the open section and the peer's reports.
+ghost use mathlib.Core.Path.{_≡_};
+ghost use mathlib.Core.Bool.{true};
+ghost use Prim.Native.Nat.{_+_, _-_, _≤_, _<_, _^_};
+ghost use lib.ListN.{length};
+ghost use Rattle.arena.specs.Ring.{longEnough};
+ghost use Rattle.field.specs.Field.{Field};
+ghost use Rattle.model.specs.Drop as model-table;
+ghost use Rattle.model.specs.Insert as model-insert;
+ghost use Rattle.model.specs.Report as model-report;
+ghost use Rattle.model.specs.Section as model-section;
+ghost use Rattle.ring.specs.Ring.{largestCount};
+ghost use Rattle.dynamic.specs.Calls as calls;
+ghost use Rattle.dynamic.specs.Promise.{Keeps, Puts, Finds, Inserts};
+ghost use Rattle.dynamic.specs.Record.{sound, checking, openFloor};
+use answers::Find;
+use answers::Insert;
+use answers::Insertion;
+use answers::Lookup;
+use answers::Refusal;
+use answers::Reply;
+use arena::RING;
+use entries::Latest;
+use entries::Room;
+use entries::SLOTS;
+use model::BLOCKED_SECTIONS;
+use model::BLOCKED_VALUES;
+use model::LARGEST_CAPACITY;
+use model::QUEUE_PLACES;
+use model::SECTION_ENTRIES;
+use ring::LARGEST_COUNT;
+use ring::Push;
+use ring::Ring;
+use ring::Source;
+use static_table::StaticFound;
+use tracking::Counted;
+use tracking::Floor;
+use tracking::Held;
+use tracking::Noted;
+use tracking::Queue;
+use tracking::Section;
+use tracking::Value;
+use tracking::Waiting;
+
+// A table by value; its strings stand in the arena that a call is lent.
+pub struct Table {
+    pub ring: Ring,
+    // The known received count, and the blocked maximum.
+    pub known: usize,
+    pub most: usize,
+    pub waiting: Waiting,
+    pub queue: Queue,
+    // Whether a section is open, with its base and what it uses.
+    pub active: bool,
+    pub base: usize,
+    pub section: Section,
+}
+
+// A table and a call's answer.
+pub struct Replied {
+    pub table: Table,
+    pub reply: Reply,
+}
+
+// A table and a find's answer.
+pub struct Looked {
+    pub table: Table,
+    pub found: Find,
+}
+
+// A table and an insert's answer.
+pub struct Inserting {
+    pub table: Table,
+    pub inserted: Insert,
+}
+
+// What a check of a record finds: whether it keeps its rules, and the lowest entry that a section uses.
+pub struct Checked {
+    pub sound: bool,
+    pub low: usize,
+}
+
+// What names a new entry: an older one by its absolute index, or the static table.
+pub enum Origin {
+    EqualEntry(usize),
+    StaticName(usize),
+    NamedEntry(usize),
+    Plain,
+}
+
+// Larger than any entry's index.
+const NOTHING_USED: usize = 18446744073709551615;
+
+// Why a capacity is not set, whatever the table holds; or none of these.
+pub enum CapacityTest {
+    Within,
+    Refused(Refusal),
+}
+
+// Whether a capacity is one that a table can have.
+pub fn capacity_test(capacity: usize) -> CapacityTest
+    ensures { λ r. ⌜ calls.tested r ≡ calls.capacityAnswer capacity ⌝ }
+{
+    if LARGEST_CAPACITY < capacity {
+        return CapacityTest::Refused(Refusal::MaximumTableSizeTooLarge);
+    }
+    if RING < capacity {
+        return CapacityTest::Refused(Refusal::AboveLentRoom);
+    }
+    CapacityTest::Within
+}
+
+// What a put answers for what the push did.
+pub fn push_reply(capacity: usize, push: Push) -> Reply
+    ensures { λ r. ⌜ r ≡ calls.pushReply capacity push ⌝ }
+{
+    match push {
+        Push::Made => Reply::Done,
+        Push::TooLarge => {
+            if capacity == 0 {
+                return Reply::Done;
+            }
+            Reply::Refused(Refusal::MaxTableSizeReached)
+        }
+        Push::NoRoom => Reply::Done,
+        Push::Full => Reply::Refused(Refusal::CountTooLarge),
+        Push::BadCall => Reply::Refused(Refusal::BadCall),
+    }
+}
+
+// Whether an open section keeps its rules, and the lowest entry that it or a queued one uses.
+fn open_floor(
+    active: bool,
+    base: usize,
+    section: Section,
+    dropped: usize,
+    inserted: usize,
+    low: usize,
+) -> Floor
+    requires { ⌜ (dropped ≤ inserted) × (inserted ≤ largestCount) ⌝ }
+    ensures { λ r. ⌜ r ≡ openFloor active base section dropped inserted low ⌝ }
+{
+    if !active {
+        return Floor { live: true, low };
+    }
+    let floor = tracking::section_floor(section, dropped, inserted, low);
+    if !floor.live {
+        return floor;
+    }
+    if inserted < base {
+        return Floor { live: false, low };
+    }
+    let from = section.from;
+    if dropped < from {
+        return Floor { live: false, low };
+    }
+    if SLOTS + section.used < inserted - from {
+        return Floor { live: false, low };
+    }
+    floor
+}
+
+// How an entry is named in a section: below its base, or above it.
+fn lookup_of(base: usize, absolute: usize) -> Lookup
+    ensures { λ r. ⌜ r ≡ model-section.lookupOf base absolute ⌝ }
+{
+    if absolute <= base {
+        return Lookup::Relative {
+            index: base - absolute,
+            absolute,
+        };
+    }
+    Lookup::PostBase {
+        index: absolute - base - 1,
+        absolute,
+    }
+}
+
+// How a new entry is written.
+fn insertion_of(base: usize, absolute: usize, origin: Origin) -> Insertion
+    requires { ⌜ (base < absolute) × calls.OlderThan absolute origin ⌝ }
+    ensures { λ r. ⌜ r ≡ model-insert.insertionOf base absolute (calls.originOf origin) ⌝ }
+{
+    let postbase = absolute - base - 1;
+    match origin {
+        Origin::EqualEntry(older) => Insertion::Duplicated {
+            relative: absolute - older - 1,
+            postbase,
+            absolute,
+        },
+        Origin::StaticName(index) => Insertion::InsertedWithStaticNameRef {
+            postbase,
+            index,
+            absolute,
+        },
+        Origin::NamedEntry(older) => Insertion::InsertedWithNameRef {
+            postbase,
+            relative: absolute - older - 1,
+            absolute,
+        },
+        Origin::Plain => Insertion::Inserted { postbase, absolute },
+    }
+}
+
+// What names a new entry, once the entries up to gone are dropped.
+fn origin_of(ring: Ring, arena: &[u8], gone: usize, name: &[u8], value: &[u8]) -> Origin
+    requires { ⌜ (ring .inserted ≤ largestCount) × (gone ≤ ring .inserted) × (longEnough (now arena) ≡ true) ⌝ }
+    ensures { λ r. ⌜ calls.originOf r ≡ calls.originAfter ring gone (now (arena .entry)) (now (name .entry)) (now (value .entry)) ⌝ }
+    ensures { λ r. ⌜ calls.OlderThan (ring .inserted + 1) r × calls.NewerThan gone r ⌝ }
+{
+    let equal = ring.newest(arena, gone, name, value, true);
+    if let Latest::At(k) = equal {
+        return Origin::EqualEntry(gone + k + 1);
+    }
+    let fixed = static_table::find_name(name);
+    if let StaticFound::At(i) = fixed {
+        return Origin::StaticName(i);
+    }
+    let named = ring.newest(arena, gone, name, value, false);
+    if let Latest::At(k) = named {
+        return Origin::NamedEntry(gone + k + 1);
+    }
+    Origin::Plain
+}
+
+// A section's uses with one more of an entry.
+fn note(section: Section, entry: usize) -> Noted
+    requires { ⌜ (section .from ≤ entry) × (entry - section .from < 2 ^ 16) ⌝ }
+    ensures { λ r. ⌜ r ≡ calls.notedIn section entry ⌝ }
+{
+    let uses = section.uses;
+    tracking::note(uses, section.used, (entry - section.from) as u16)
+}
+
+// A section with other uses.
+fn with_uses(section: Section, noted: Noted) -> Section
+    ensures { λ r. ⌜ r ≡ calls.withUses section noted ⌝ }
+{
+    let uses = noted.uses;
+    Section {
+        stream: section.stream,
+        from: section.from,
+        used: noted.used,
+        uses,
+    }
+}
+
+// The uses of a section that inserts: the new entry's, and an older one's too where that names it.
+fn note_origin(section: Section, absolute: usize, origin: Origin) -> Noted
+    requires { ⌜ (section .from ≤ absolute) × (absolute - section .from < 2 ^ 16) × calls.OlderThan absolute origin × calls.NewerThan (section .from) origin ⌝ }
+    ensures { λ r. ⌜ r ≡ calls.notedFor section absolute (calls.originOf origin) ⌝ }
+{
+    let first = note(section, absolute);
+    if !first.fits {
+        return first;
+    }
+    match origin {
+        Origin::EqualEntry(older) => note(with_uses(section, first), older),
+        Origin::StaticName(_) => first,
+        Origin::NamedEntry(older) => note(with_uses(section, first), older),
+        Origin::Plain => first,
+    }
+}
+
+// The blocked sections with a committed one, if its largest reference is above the known received count.
+fn waiting_with(waiting: Waiting, known: usize, largest: usize) -> Counted
+    ensures { λ r. ⌜ r ≡ calls.countedWith waiting known largest ⌝ }
+{
+    if largest <= known {
+        return Counted {
+            fits: true,
+            waiting,
+        };
+    }
+    tracking::block(waiting, largest)
+}
+
+impl Table {
+    // A table with nothing in it, and no room.
+    pub fn fresh() -> Table
+        ensures { λ r. ⌜ r ≡ calls.freshTable ⌝ }
+    {
+        let none = Held {
+            offset: 0,
+            count: 0,
+        };
+        let section = Section {
+            stream: 0,
+            from: 0,
+            used: 0,
+            uses: [none; SECTION_ENTRIES],
+        };
+        let value = Value {
+            largest: 0,
+            sections: 0,
+        };
+        Table {
+            ring: Ring {
+                inserted: 0,
+                dropped: 0,
+                size: 0,
+                capacity: 0,
+                tail: 0,
+                head: 0,
+                starts: [0; SLOTS],
+                names: [0; SLOTS],
+                values: [0; SLOTS],
+            },
+            known: 0,
+            most: 0,
+            waiting: Waiting {
+                total: 0,
+                distinct: 0,
+                values: [value; BLOCKED_VALUES],
+            },
+            queue: Queue {
+                queued: 0,
+                places: [section; QUEUE_PLACES],
+            },
+            active: false,
+            base: 0,
+            section,
+        }
+    }
+
+    // Whether the record keeps its rules, and the lowest entry that a section uses.
+    pub fn checked(self) -> Checked
+        ensures { λ r. ⌜ r ≡ checking self ⌝ }
+    {
+        let broken = Checked {
+            sound: false,
+            low: 0,
+        };
+        let ring = self.ring;
+        if !ring.sound() {
+            return broken;
+        }
+        if LARGEST_COUNT < self.known {
+            return broken;
+        }
+        if BLOCKED_SECTIONS <= self.most {
+            return broken;
+        }
+        if !tracking::waiting_ok(self.waiting) {
+            return broken;
+        }
+        let queued = tracking::queue_floor(self.queue, ring.dropped, ring.inserted, NOTHING_USED);
+        if !queued.live {
+            return broken;
+        }
+        let all = open_floor(
+            self.active,
+            self.base,
+            self.section,
+            ring.dropped,
+            ring.inserted,
+            queued.low,
+        );
+        if !all.live {
+            return broken;
+        }
+        Checked {
+            sound: true,
+            low: all.low,
+        }
+    }
+
+    // Sets the capacity.
+    pub fn set_capacity(mut self, capacity: usize) -> Replied
+        ensures { λ r. ⌜ Keeps self (calls.setCapacity self capacity) r (λ t. model-table.setCapacity t capacity) ⌝ }
+    {
+        let c = self.checked();
+        if !c.sound {
+            return refused(self, Refusal::BadCall);
+        }
+        if self.active {
+            return refused(self, Refusal::SectionOpen);
+        }
+        if let CapacityTest::Refused(why) = capacity_test(capacity) {
+            return refused(self, why);
+        }
+        let cut = self.ring.cut(c.low, capacity);
+        if !cut.made {
+            return refused(self, Refusal::ShrinkBlocked);
+        }
+        let ring = cut.ring;
+        self.ring = ring;
+        done(self)
+    }
+
+    // Sets the blocked maximum.
+    pub fn set_max_blocked(mut self, most: usize) -> Replied
+        ensures { λ r. ⌜ Keeps self (calls.setMost self most) r (λ t. model-table.setBlockedMax t most) ⌝ }
+    {
+        let c = self.checked();
+        if !c.sound {
+            return refused(self, Refusal::BadCall);
+        }
+        if self.active {
+            return refused(self, Refusal::SectionOpen);
+        }
+        if BLOCKED_SECTIONS <= most {
+            return refused(self, Refusal::MaxBlockedStreamsTooLarge);
+        }
+        self.most = most;
+        done(self)
+    }
+
+    // Inserts a field that the peer sent, where it can be.
+    pub fn put(mut self, arena: &mut [u8], name: &[u8], value: &[u8]) -> Replied
+        ensures { λ r. ⌜ Puts self (now (arena .entry)) (now (arena .exit)) (calls.put self (now (arena .entry)) (now (name .entry)) (now (value .entry))) r (now (name .entry)) (now (value .entry)) ⌝ }
+    {
+        let c = self.checked();
+        if !c.sound {
+            return refused(self, Refusal::BadCall);
+        }
+        if arena.len() < RING {
+            return refused(self, Refusal::BadCall);
+        }
+        if self.active {
+            return refused(self, Refusal::SectionOpen);
+        }
+        let ring = self.ring;
+        let p = ring.push(arena, c.low, Source::Given, name, value);
+        let next = p.ring;
+        let push = p.push;
+        self.ring = next;
+        Replied {
+            table: self,
+            reply: push_reply(ring.capacity, push),
+        }
+    }
+
+    // Opens a section of a stream.
+    pub fn begin(mut self, stream: u64) -> Replied
+        ensures { λ r. ⌜ Keeps self (calls.begin self stream) r (λ t. model-section.begin t stream) ⌝ }
+    {
+        let c = self.checked();
+        if !c.sound {
+            return refused(self, Refusal::BadCall);
+        }
+        if self.active {
+            return refused(self, Refusal::SectionOpen);
+        }
+        let dropped = self.ring.dropped;
+        let none = Held {
+            offset: 0,
+            count: 0,
+        };
+        self.active = true;
+        self.base = self.ring.inserted - dropped;
+        let section = Section {
+            stream,
+            from: dropped,
+            used: 0,
+            uses: [none; SECTION_ENTRIES],
+        };
+        self.section = section;
+        done(self)
+    }
+
+    // The latest entry of a field, which the open section then uses.
+    pub fn find(mut self, arena: &[u8], name: &[u8], value: &[u8]) -> Looked
+        ensures { λ r. ⌜ Finds self (now (arena .entry)) (now (name .entry)) (now (value .entry)) r ⌝ }
+    {
+        let c = self.checked();
+        if !c.sound {
+            return not_found(self, Refusal::BadCall);
+        }
+        if arena.len() < RING {
+            return not_found(self, Refusal::BadCall);
+        }
+        if !self.active {
+            return not_found(self, Refusal::NoSection);
+        }
+        let ring = self.ring;
+        let Latest::At(k) = ring.newest(arena, ring.dropped, name, value, true) else {
+            return Looked {
+                table: self,
+                found: Find::Found(Lookup::NotFound),
+            };
+        };
+        let absolute = ring.dropped + k + 1;
+        let section = self.section;
+        let noted = note(section, absolute);
+        if !noted.fits {
+            return not_found(self, Refusal::TrackingFull);
+        }
+        self.section = with_uses(section, noted);
+        Looked {
+            table: self,
+            found: Find::Found(lookup_of(self.base, absolute)),
+        }
+    }
+
+    // Inserts a field that the open section then uses, or says what names it.
+    pub fn insert(mut self, arena: &mut [u8], name: &[u8], value: &[u8]) -> Inserting
+        ensures { λ r. ⌜ Inserts self (now (arena .entry)) (now (arena .exit)) (now (name .entry)) (now (value .entry)) r ⌝ }
+    {
+        let c = self.checked();
+        if !c.sound {
+            return not_inserted(self, Refusal::BadCall);
+        }
+        if arena.len() < RING {
+            return not_inserted(self, Refusal::BadCall);
+        }
+        if !self.active {
+            return not_inserted(self, Refusal::NoSection);
+        }
+        if self.most <= self.waiting.total {
+            return self.name_only(arena, name, value);
+        }
+        let room = self.ring.room(c.low, name.len(), value.len());
+        if !room.made {
+            return self.name_only(arena, name, value);
+        }
+        self.insert_made(arena, c.low, room, name, value)
+    }
+
+    // An insertion that is not made: what names the field.
+    fn name_only(mut self, arena: &[u8], name: &[u8], value: &[u8]) -> Inserting
+        requires { ⌜ (sound self ≡ true) × (longEnough (now arena) ≡ true) × (self .active ≡ true) ⌝ }
+        ensures { λ r. ⌜ r ≡ calls.notInserted self (now (arena .entry)) (now (name .entry)) (now (value .entry)) ⌝ }
+    {
+        let fixed = static_table::find_name(name);
+        if let StaticFound::At(i) = fixed {
+            return named(self, Lookup::Static(i));
+        }
+        let ring = self.ring;
+        let Latest::At(k) = ring.newest(arena, ring.dropped, name, value, false) else {
+            return named(self, Lookup::NotFound);
+        };
+        let absolute = ring.dropped + k + 1;
+        let section = self.section;
+        let noted = note(section, absolute);
+        if !noted.fits {
+            return not_inserted(self, Refusal::TrackingFull);
+        }
+        self.section = with_uses(section, noted);
+        named(self, lookup_of(self.base, absolute))
+    }
+
+    // An insertion for which there is room.
+    fn insert_made(
+        mut self,
+        arena: &mut [u8],
+        low: usize,
+        room: Room,
+        name: &[u8],
+        value: &[u8],
+    ) -> Inserting
+        requires { ⌜ (sound self ≡ true) × (longEnough (now arena) ≡ true) × (self .active ≡ true) × calls.RoomOf self low room (now name) (now value) ⌝ }
+        ensures { λ r. ⌜ r ≡ calls.made self room (now (arena .entry)) (now (name .entry)) (now (value .entry)) ⌝ }
+        ensures { λ r. ⌜ now (arena .exit) ≡ calls.bytesAfter self (r .table) (now (arena .entry)) (now (name .entry)) (now (value .entry)) ⌝ }
+    {
+        let ring = self.ring;
+        let origin = origin_of(ring, arena, ring.dropped + room.count, name, value);
+        let absolute = ring.inserted + 1;
+        let section = self.section;
+        let noted = note_origin(section, absolute, origin);
+        if !noted.fits {
+            return not_inserted(self, Refusal::TrackingFull);
+        }
+        if LARGEST_COUNT <= ring.inserted {
+            return not_inserted(self, Refusal::CountTooLarge);
+        }
+        let p = ring.push(arena, low, Source::Given, name, value);
+        let next = p.ring;
+        self.ring = next;
+        self.section = with_uses(section, noted);
+        Inserting {
+            table: self,
+            inserted: Insert::Insertion(insertion_of(self.base, absolute, origin)),
+        }
+    }
+
+    // Puts the open section into the queue; largest is its largest reference.
+    pub fn commit(mut self, largest: usize) -> Replied
+        ensures { λ r. ⌜ Keeps self (calls.commit self largest) r (λ t. model-section.commit t largest) ⌝ }
+    {
+        let c = self.checked();
+        if !c.sound {
+            return refused(self, Refusal::BadCall);
+        }
+        if !self.active {
+            return refused(self, Refusal::NoSection);
+        }
+        if self.ring.inserted < largest {
+            return refused(self, Refusal::BadLargest);
+        }
+        let q = tracking::push(self.queue, self.section);
+        if !q.made {
+            return refused(self, Refusal::TrackingFull);
+        }
+        let w = waiting_with(self.waiting, self.known, largest);
+        if !w.fits {
+            return refused(self, Refusal::TrackingFull);
+        }
+        let waiting = w.waiting;
+        let queue = q.queue;
+        self.waiting = waiting;
+        self.queue = queue;
+        self.active = false;
+        done(self)
+    }
+
+    // Closes the open section and gives all its references back.
+    pub fn abandon(mut self) -> Replied
+        ensures { λ r. ⌜ Keeps self (calls.abandon self) r (model-section.abandon) ⌝ }
+    {
+        let c = self.checked();
+        if !c.sound {
+            return refused(self, Refusal::BadCall);
+        }
+        if !self.active {
+            return refused(self, Refusal::NoSection);
+        }
+        self.active = false;
+        done(self)
+    }
+
+    // The peer acknowledged a section of a stream.
+    pub fn acknowledge(self, stream: u64) -> Replied
+        ensures { λ r. ⌜ Keeps self (calls.release self stream) r (λ t. model-report.release t stream) ⌝ }
+    {
+        self.release(stream)
+    }
+
+    // The peer cancelled a stream.
+    pub fn cancel(self, stream: u64) -> Replied
+        ensures { λ r. ⌜ Keeps self (calls.release self stream) r (λ t. model-report.release t stream) ⌝ }
+    {
+        self.release(stream)
+    }
+
+    // The release of the stream's oldest queued section.
+    fn release(mut self, stream: u64) -> Replied
+        ensures { λ r. ⌜ Keeps self (calls.release self stream) r (λ t. model-report.release t stream) ⌝ }
+    {
+        let c = self.checked();
+        if !c.sound {
+            return refused(self, Refusal::BadCall);
+        }
+        if self.active {
+            return refused(self, Refusal::SectionOpen);
+        }
+        let q = tracking::release(self.queue, stream);
+        if !q.made {
+            return refused(self, Refusal::UnknownStreamId);
+        }
+        let queue = q.queue;
+        self.queue = queue;
+        done(self)
+    }
+
+    // The peer received more inserts.
+    pub fn increment(mut self, inserts: usize) -> Replied
+        ensures { λ r. ⌜ Keeps self (calls.increment self inserts) r (λ t. model-report.increment t inserts) ⌝ }
+    {
+        let c = self.checked();
+        if !c.sound {
+            return refused(self, Refusal::BadCall);
+        }
+        if self.active {
+            return refused(self, Refusal::SectionOpen);
+        }
+        let known = self.known;
+        if LARGEST_COUNT - known < inserts {
+            return refused(self, Refusal::CountTooLarge);
+        }
+        self.known = known + inserts;
+        self.waiting = tracking::let_go(self.waiting, known + inserts);
+        done(self)
+    }
+}
+
+fn done(table: Table) -> Replied
+    ensures { λ r. ⌜ r ≡ calls.answer table Reply.Done ⌝ }
+{
+    Replied {
+        table,
+        reply: Reply::Done,
+    }
+}
+
+fn refused(table: Table, why: Refusal) -> Replied
+    ensures { λ r. ⌜ r ≡ calls.no table why ⌝ }
+{
+    Replied {
+        table,
+        reply: Reply::Refused(why),
+    }
+}
+
+fn not_found(table: Table, why: Refusal) -> Looked
+    ensures { λ r. ⌜ r ≡ calls.looked table (Find.Refused why) ⌝ }
+{
+    Looked {
+        table,
+        found: Find::Refused(why),
+    }
+}
+
+fn not_inserted(table: Table, why: Refusal) -> Inserting
+    ensures { λ r. ⌜ r ≡ calls.inserting table (Insert.Refused why) ⌝ }
+{
+    Inserting {
+        table,
+        inserted: Insert::Refused(why),
+    }
+}
+
+fn named(table: Table, lookup: Lookup) -> Inserting
+    ensures { λ r. ⌜ r ≡ calls.notMade table lookup ⌝ }
+{
+    Inserting {
+        table,
+        inserted: Insert::Insertion(Insertion::NotInserted(lookup)),
+    }
+}
