@@ -10,6 +10,7 @@ pub mod Putting
 pub mod Refer
 pub mod Reports
 pub mod Sections
+pub mod Sentences
 pub mod Setting
 pub mod Sound
 pub mod Staying
