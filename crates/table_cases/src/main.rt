@@ -9,6 +9,8 @@ use dynamic::Looked;
 use dynamic::Replied;
 use dynamic::Table;
 use libc::STDOUT_FILENO;
+use ring::Pushed;
+use ring::Source;
 
 fn say(text: &[u8]) {
     io::write_all(STDOUT_FILENO, text);
@@ -233,8 +235,49 @@ fn nothing_changes() {
     reply(b"cancel 4:", t.cancel(4));
 }
 
+// The table with a ring after a push.
+fn pushed(label: &[u8], mut t: Table, p: Pushed) -> Table {
+    say(label);
+    say(b"\n");
+    let next = p.ring;
+    t.ring = next;
+    show(t);
+    t
+}
+
+// A find in a section that is then abandoned.
+fn find_and_abandon(t: Table, arena: &[u8], value: &[u8]) -> Table {
+    let t = reply(b"begin 4:", t.begin(4));
+    let t = looked(b"find 10033:", t.find(arena, b"a", value));
+    reply(b"abandon:", t.abandon())
+}
+
+// An entry that the push itself drops, and whose bytes it overwrites, is copied or lends its name as it was.
+fn a_dropped_entry_is_copied() {
+    let mut arena = [0u8; 16384];
+    let mut text = [7u8; 10000];
+    text[0] = 1;
+    text[5000] = 2;
+    text[9999] = 3;
+    let t = reply(b"capacity 16384:", Table::fresh().set_capacity(16384));
+    let t = reply(b"put 10033:", t.put(&mut arena, b"a", &text));
+    let t = pushed(
+        b"copy of the oldest:",
+        t,
+        t.ring.push(&mut arena, 2, Source::CopyOf(0), b"", b""),
+    );
+    let t = find_and_abandon(t, &arena, &text);
+    let t = pushed(
+        b"name of the oldest:",
+        t,
+        t.ring.push(&mut arena, 3, Source::NameOf(0), b"", &text),
+    );
+    find_and_abandon(t, &arena, &text);
+}
+
 fn main() {
     one_is_dropped();
     the_first_is_referenced();
     nothing_changes();
+    a_dropped_entry_is_copied();
 }
