@@ -14,19 +14,34 @@ refused-requires : tie.Need-refused-requires
 refused-requires c κs = search needs
 
 returns : tie.Need-returns
-returns c = abandon-keeps (c .before .before .before .before .args .self) _ (c .refused .ensures ∙ abandon-broken (c .before .before .before .before .args .self) (checked-false (c .before .before .before .before .args .self) (c .before .before .before .checked .result) (c .before .before .before .checked .ensures) (not-true _ (c .before .if1 .taken))))
+returns c =
+    let z = c .before .before .before .before in
+    let t = z .args .self in
+    let broken = checked-false _ _ (c .before .before .before .checked .ensures) (not-true _ (c .before .if1 .taken)) in
+    abandon-keeps t _
+    (c .refused .ensures ∙ abandon-broken t broken)
 
 refused-requires-2 : tie.Need-refused-requires-2
 refused-requires-2 c κs = search needs
 
 returns-2 : tie.Need-returns-2
-returns-2 c = abandon-keeps (c .before .before .before .before .before .before .args .self) _ (c .refused2 .ensures ∙ abandon-closed (c .before .before .before .before .before .before .args .self) (checked-true (c .before .before .before .before .before .before .args .self) (c .before .before .before .before .before .checked .result) (c .before .before .before .before .before .checked .ensures) (not-false _ (c .before .before .before .if1 .left))) (not-true _ (c .before .if2 .taken)))
+returns-2 c =
+    let z = c .before .before .before .before .before .before in
+    let t = z .args .self in
+    let rules = checked-true _ _ (c .before .before .before .before .before .checked .ensures) (not-false _ (c .before .before .before .if1 .left)) in
+    abandon-keeps t _
+    (c .refused2 .ensures ∙ abandon-closed t rules (not-true _ (c .before .if2 .taken)))
 
 done-requires : tie.Need-done-requires
 done-requires c κs = search needs
 
 returns-3 : tie.Need-returns-3
-returns-3 c = abandon-keeps (c .before .before .before .before .before .before .args .self) _ (c .done .ensures ∙ abandon-done (c .before .before .before .before .before .before .args .self) (checked-true (c .before .before .before .before .before .before .args .self) (c .before .before .before .before .before .checked .result) (c .before .before .before .before .before .checked .ensures) (not-false _ (c .before .before .before .if1 .left))) (not-false _ (c .before .if2 .left)))
+returns-3 c =
+    let z = c .before .before .before .before .before .before in
+    let t = z .args .self in
+    let rules = checked-true _ _ (c .before .before .before .before .before .checked .ensures) (not-false _ (c .before .before .before .if1 .left)) in
+    abandon-keeps t _
+    (c .done .ensures ∙ abandon-done t rules (not-false _ (c .before .if2 .left)))
 
 pub abandon-spec : {M : Type 1} → statement M
 abandon-spec =

@@ -17,22 +17,39 @@ refused-requires : tie.Need-refused-requires
 refused-requires c κs = search needs
 
 returns : tie.Need-returns
-returns c = begin-keeps (c .before .before .before .before .args .self) (c .before .before .before .before .args .stream) _ (c .refused .ensures ∙ begin-broken (c .before .before .before .before .args .self) (c .before .before .before .before .args .stream) (checked-false (c .before .before .before .before .args .self) (c .before .before .before .checked .result) (c .before .before .before .checked .ensures) (not-true _ (c .before .if1 .taken))))
+returns c =
+    let z = c .before .before .before .before in
+    let t = z .args .self in
+    let broken = checked-false _ _ (c .before .before .before .checked .ensures) (not-true _ (c .before .if1 .taken)) in
+    begin-keeps t (z .args .stream) _
+    (c .refused .ensures ∙ begin-broken t (z .args .stream) broken)
 
 refused-requires-2 : tie.Need-refused-requires-2
 refused-requires-2 c κs = search needs
 
 returns-2 : tie.Need-returns-2
-returns-2 c = begin-keeps (c .before .before .before .before .before .args .self) (c .before .before .before .before .before .args .stream) _ (c .refused2 .ensures ∙ begin-open (c .before .before .before .before .before .args .self) (c .before .before .before .before .before .args .stream) (checked-true (c .before .before .before .before .before .args .self) (c .before .before .before .before .checked .result) (c .before .before .before .before .checked .ensures) (not-false _ (c .before .before .if1 .left))) (c .before .if2 .taken))
+returns-2 c =
+    let z = c .before .before .before .before .before in
+    let t = z .args .self in
+    let rules = checked-true _ _ (c .before .before .before .before .checked .ensures) (not-false _ (c .before .before .if1 .left)) in
+    begin-keeps t (z .args .stream) _
+    (c .refused2 .ensures ∙ begin-open t (z .args .stream) rules (c .before .if2 .taken))
 
 sub-self : tie.Need-sub-self
-sub-self c = kept _ (facts _ (checked-true (c .before .before .before .before .before .args .self) (c .before .before .before .before .checked .result) (c .before .before .before .before .checked .ensures) (not-false _ (c .before .before .if1 .left))) .ring) .rules .order
+sub-self c =
+    let rules = checked-true _ _ (c .before .before .before .before .checked .ensures) (not-false _ (c .before .before .if1 .left)) in
+    kept _ (facts _ rules .ring) .rules .order
 
 done-requires : tie.Need-done-requires
 done-requires c κs = search needs
 
 returns-3 : tie.Need-returns-3
-returns-3 c = begin-keeps (c .before .before .before .before .before .before .args .self) (c .before .before .before .before .before .before .args .stream) _ (c .done .ensures ∙ begin-done (c .before .before .before .before .before .before .args .self) (c .before .before .before .before .before .before .args .stream) (checked-true (c .before .before .before .before .before .before .args .self) (c .before .before .before .before .before .checked .result) (c .before .before .before .before .before .checked .ensures) (not-false _ (c .before .before .before .if1 .left))) (c .before .before .if2 .left))
+returns-3 c =
+    let z = c .before .before .before .before .before .before in
+    let t = z .args .self in
+    let rules = checked-true _ _ (c .before .before .before .before .before .checked .ensures) (not-false _ (c .before .before .before .if1 .left)) in
+    begin-keeps t (z .args .stream) _
+    (c .done .ensures ∙ begin-done t (z .args .stream) rules (c .before .before .if2 .left))
 
 pub begin-spec : {M : Type 1} → statement M
 begin-spec =

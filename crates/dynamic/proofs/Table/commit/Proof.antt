@@ -23,19 +23,35 @@ refused-requires : tie.Need-refused-requires
 refused-requires c κs = search needs
 
 returns : tie.Need-returns
-returns c = commit-keeps (c .before .before .before .before .args .self) (c .before .before .before .before .args .largest) (long (c .before .before .before .before)) (whole (c .before .before .before .before)) _ (c .refused .ensures ∙ commit-broken (c .before .before .before .before .args .self) (c .before .before .before .before .args .largest) (checked-false (c .before .before .before .before .args .self) (c .before .before .before .checked .result) (c .before .before .before .checked .ensures) (not-true _ (c .before .if1 .taken))))
+returns c =
+    let z = c .before .before .before .before in
+    let t = z .args .self in
+    let broken = checked-false _ _ (c .before .before .before .checked .ensures) (not-true _ (c .before .if1 .taken)) in
+    commit-keeps t (z .args .largest) (long z) (whole z) _
+    (c .refused .ensures ∙ commit-broken t (z .args .largest) broken)
 
 refused-requires-2 : tie.Need-refused-requires-2
 refused-requires-2 c κs = search needs
 
 returns-2 : tie.Need-returns-2
-returns-2 c = commit-keeps (c .before .before .before .before .before .before .args .self) (c .before .before .before .before .before .before .args .largest) (long (c .before .before .before .before .before .before)) (whole (c .before .before .before .before .before .before)) _ (c .refused2 .ensures ∙ commit-closed (c .before .before .before .before .before .before .args .self) (c .before .before .before .before .before .before .args .largest) (checked-true (c .before .before .before .before .before .before .args .self) (c .before .before .before .before .before .checked .result) (c .before .before .before .before .before .checked .ensures) (not-false _ (c .before .before .before .if1 .left))) (not-true _ (c .before .if2 .taken)))
+returns-2 c =
+    let z = c .before .before .before .before .before .before in
+    let t = z .args .self in
+    let rules = checked-true _ _ (c .before .before .before .before .before .checked .ensures) (not-false _ (c .before .before .before .if1 .left)) in
+    commit-keeps t (z .args .largest) (long z) (whole z) _
+    (c .refused2 .ensures ∙ commit-closed t (z .args .largest) rules (not-true _ (c .before .if2 .taken)))
 
 refused-requires-3 : tie.Need-refused-requires-3
 refused-requires-3 c κs = search needs
 
 returns-3 : tie.Need-returns-3
-returns-3 c = commit-keeps (c .before .before .before .before .before .before .before .before .args .self) (c .before .before .before .before .before .before .before .before .args .largest) (long (c .before .before .before .before .before .before .before .before)) (whole (c .before .before .before .before .before .before .before .before)) _ (c .refused3 .ensures ∙ commit-large (c .before .before .before .before .before .before .before .before .args .self) (c .before .before .before .before .before .before .before .before .args .largest) (checked-true (c .before .before .before .before .before .before .before .before .args .self) (c .before .before .before .before .before .before .before .checked .result) (c .before .before .before .before .before .before .before .checked .ensures) (not-false _ (c .before .before .before .before .before .if1 .left))) (not-false _ (c .before .before .before .if2 .left)) (c .before .if3 .taken))
+returns-3 c =
+    let z = c .before .before .before .before .before .before .before .before in
+    let t = z .args .self in
+    let rules = checked-true _ _ (c .before .before .before .before .before .before .before .checked .ensures)
+    (not-false _ (c .before .before .before .before .before .if1 .left)) in
+    commit-keeps t (z .args .largest) (long z) (whole z) _
+    (c .refused3 .ensures ∙ commit-large t (z .args .largest) rules (not-false _ (c .before .before .before .if2 .left)) (c .before .if3 .taken))
 
 push-requires : tie.Need-push-requires
 push-requires c κs = search needs
@@ -44,7 +60,15 @@ refused-requires-4 : tie.Need-refused-requires-4
 refused-requires-4 c κs = search needs
 
 returns-4 : tie.Need-returns-4
-returns-4 c = commit-keeps (c .before .before .before .before .before .before .before .before .before .before .before .args .self) (c .before .before .before .before .before .before .before .before .before .before .before .args .largest) (long (c .before .before .before .before .before .before .before .before .before .before .before)) (whole (c .before .before .before .before .before .before .before .before .before .before .before)) _ (c .refused4 .ensures ∙ commit-no-place (c .before .before .before .before .before .before .before .before .before .before .before .args .self) (c .before .before .before .before .before .before .before .before .before .before .before .args .largest) (checked-true (c .before .before .before .before .before .before .before .before .before .before .before .args .self) (c .before .before .before .before .before .before .before .before .before .before .checked .result) (c .before .before .before .before .before .before .before .before .before .before .checked .ensures) (not-false _ (c .before .before .before .before .before .before .before .before .if1 .left))) (not-false _ (c .before .before .before .before .before .before .if2 .left)) (c .before .before .before .before .if3 .left) _ (c .before .before .before .push .ensures) (not-true _ (c .before .if4 .taken)))
+returns-4 c =
+    let z = c .before .before .before .before .before .before .before .before .before .before .before in
+    let t = z .args .self in
+    let rules = checked-true _ _ (c .before .before .before .before .before .before .before .before .before .before .checked .ensures)
+    (not-false _ (c .before .before .before .before .before .before .before .before .if1 .left)) in
+    commit-keeps t (z .args .largest) (long z) (whole z) _
+    (c .refused4 .ensures
+    ∙ commit-no-place t (z .args .largest) rules (not-false _ (c .before .before .before .before .before .before .if2 .left))
+    (c .before .before .before .before .if3 .left) _ (c .before .before .before .push .ensures) (not-true _ (c .before .if4 .taken)))
 
 waiting-with-requires : tie.Need-waiting-with-requires
 waiting-with-requires c κs = search needs
@@ -53,13 +77,37 @@ refused-requires-5 : tie.Need-refused-requires-5
 refused-requires-5 c κs = search needs
 
 returns-5 : tie.Need-returns-5
-returns-5 c = commit-keeps (c .before .before .before .before .before .before .before .before .before .before .before .before .before .before .args .self) (c .before .before .before .before .before .before .before .before .before .before .before .before .before .before .args .largest) (long (c .before .before .before .before .before .before .before .before .before .before .before .before .before .before)) (whole (c .before .before .before .before .before .before .before .before .before .before .before .before .before .before)) _ (c .refused5 .ensures ∙ commit-no-value (c .before .before .before .before .before .before .before .before .before .before .before .before .before .before .args .self) (c .before .before .before .before .before .before .before .before .before .before .before .before .before .before .args .largest) (checked-true (c .before .before .before .before .before .before .before .before .before .before .before .before .before .before .args .self) (c .before .before .before .before .before .before .before .before .before .before .before .before .before .checked .result) (c .before .before .before .before .before .before .before .before .before .before .before .before .before .checked .ensures) (not-false _ (c .before .before .before .before .before .before .before .before .before .before .before .if1 .left))) (not-false _ (c .before .before .before .before .before .before .before .before .before .if2 .left)) (c .before .before .before .before .before .before .before .if3 .left) _ (c .before .before .before .before .before .before .push .ensures) (not-false _ (c .before .before .before .before .if4 .left)) _ (c .before .before .before .waiting-with .ensures) (not-true _ (c .before .if5 .taken)))
+returns-5 c =
+    let z = c .before .before .before .before .before .before .before .before .before .before .before .before .before .before in
+    let t = z .args .self in
+    let rules = checked-true _ _
+    (c .before .before .before .before .before .before .before .before .before .before .before .before .before .checked .ensures)
+    (not-false _ (c .before .before .before .before .before .before .before .before .before .before .before .if1 .left)) in
+    commit-keeps t (z .args .largest) (long z) (whole z) _
+    (c .refused5 .ensures
+    ∙ commit-no-value t (z .args .largest) rules (not-false _ (c .before .before .before .before .before .before .before .before .before .if2 .left))
+    (c .before .before .before .before .before .before .before .if3 .left) _ (c .before .before .before .before .before .before .push .ensures)
+    (not-false _ (c .before .before .before .before .if4 .left)) _ (c .before .before .before .waiting-with .ensures)
+    (not-true _ (c .before .if5 .taken)))
 
 done-requires : tie.Need-done-requires
 done-requires c κs = search needs
 
 returns-6 : tie.Need-returns-6
-returns-6 c = commit-keeps (c .before .before .before .before .before .before .before .before .before .before .before .before .before .before .before .before .args .self) (c .before .before .before .before .before .before .before .before .before .before .before .before .before .before .before .before .args .largest) (long (c .before .before .before .before .before .before .before .before .before .before .before .before .before .before .before .before)) (whole (c .before .before .before .before .before .before .before .before .before .before .before .before .before .before .before .before)) _ (c .done .ensures ∙ commit-done (c .before .before .before .before .before .before .before .before .before .before .before .before .before .before .before .before .args .self) (c .before .before .before .before .before .before .before .before .before .before .before .before .before .before .before .before .args .largest) (checked-true (c .before .before .before .before .before .before .before .before .before .before .before .before .before .before .before .before .args .self) (c .before .before .before .before .before .before .before .before .before .before .before .before .before .before .before .checked .result) (c .before .before .before .before .before .before .before .before .before .before .before .before .before .before .before .checked .ensures) (not-false _ (c .before .before .before .before .before .before .before .before .before .before .before .before .before .if1 .left))) (not-false _ (c .before .before .before .before .before .before .before .before .before .before .before .if2 .left)) (c .before .before .before .before .before .before .before .before .before .if3 .left) _ (c .before .before .before .before .before .before .before .before .push .ensures) (not-false _ (c .before .before .before .before .before .before .if4 .left)) _ (c .before .before .before .before .before .waiting-with .ensures) (not-false _ (c .before .before .before .if5 .left)))
+returns-6 c =
+    let z = c .before .before .before .before .before .before .before .before .before .before .before .before .before .before .before .before in
+    let t = z .args .self in
+    let rules = checked-true _ _
+    (c .before .before .before .before .before .before .before .before .before .before .before .before .before .before .before .checked .ensures)
+    (not-false _ (c .before .before .before .before .before .before .before .before .before .before .before .before .before .if1 .left)) in
+    commit-keeps t (z .args .largest) (long z) (whole z) _
+    (c .done .ensures
+    ∙ commit-done t (z .args .largest) rules
+    (not-false _ (c .before .before .before .before .before .before .before .before .before .before .before .if2 .left))
+    (c .before .before .before .before .before .before .before .before .before .if3 .left) _
+    (c .before .before .before .before .before .before .before .before .push .ensures)
+    (not-false _ (c .before .before .before .before .before .before .if4 .left)) _ (c .before .before .before .before .before .waiting-with .ensures)
+    (not-false _ (c .before .before .before .if5 .left)))
 
 pub commit-spec : {M : Type 1} → statement M
 commit-spec =

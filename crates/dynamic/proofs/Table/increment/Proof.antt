@@ -21,24 +21,39 @@ refused-requires : tie.Need-refused-requires
 refused-requires c κs = search needs
 
 returns : tie.Need-returns
-returns c = increment-keeps (c .before .before .before .before .args .self) (c .before .before .before .before .args .inserts) _ (long (c .before .before .before .before)) (c .refused .ensures ∙ increment-broken (c .before .before .before .before .args .self) (c .before .before .before .before .args .inserts) (checked-false (c .before .before .before .before .args .self) (c .before .before .before .checked .result) (c .before .before .before .checked .ensures) (not-true _ (c .before .if1 .taken))))
+returns c =
+    let z = c .before .before .before .before in
+    let t = z .args .self in
+    let broken = checked-false _ _ (c .before .before .before .checked .ensures) (not-true _ (c .before .if1 .taken)) in
+    increment-keeps t (z .args .inserts) _ (long z)
+    (c .refused .ensures ∙ increment-broken t (z .args .inserts) broken)
 
 refused-requires-2 : tie.Need-refused-requires-2
 refused-requires-2 c κs = search needs
 
 returns-2 : tie.Need-returns-2
-returns-2 c = increment-keeps (c .before .before .before .before .before .args .self) (c .before .before .before .before .before .args .inserts) _ (long (c .before .before .before .before .before)) (c .refused2 .ensures ∙ increment-open (c .before .before .before .before .before .args .self) (c .before .before .before .before .before .args .inserts) (checked-true (c .before .before .before .before .before .args .self) (c .before .before .before .before .checked .result) (c .before .before .before .before .checked .ensures) (not-false _ (c .before .before .if1 .left))) (c .before .if2 .taken))
+returns-2 c =
+    let z = c .before .before .before .before .before in
+    let t = z .args .self in
+    let rules = checked-true _ _ (c .before .before .before .before .checked .ensures) (not-false _ (c .before .before .if1 .left)) in
+    increment-keeps t (z .args .inserts) _ (long z)
+    (c .refused2 .ensures ∙ increment-open t (z .args .inserts) rules (c .before .if2 .taken))
 
 sub-if3 : tie.Need-sub-if3
-sub-if3 c = facts _ (checked-true (c .before .before .before .before .args .self) (c .before .before .before .checked .result) (c .before .before .before .checked .ensures) (not-false _ (c .before .if1 .left))) .known
+sub-if3 c =
+    let rules = checked-true _ _ (c .before .before .before .checked .ensures) (not-false _ (c .before .if1 .left)) in
+    facts _ rules .known
 
 refused-requires-3 : tie.Need-refused-requires-3
 refused-requires-3 c κs = search needs
 
 returns-3 : tie.Need-returns-3
 returns-3 c =
-    let k = (checked-true (c .before .before .before .before .before .before .args .self) (c .before .before .before .before .before .checked .result) (c .before .before .before .before .before .checked .ensures) (not-false _ (c .before .before .before .if1 .left))) in
-    increment-keeps (c .before .before .before .before .before .before .args .self) (c .before .before .before .before .before .before .args .inserts) _ (long (c .before .before .before .before .before .before)) (c .refused3 .ensures ∙ increment-past (c .before .before .before .before .before .before .args .self) (c .before .before .before .before .before .before .args .inserts) k (c .before .before .if2 .left) (omega (arith, facts _ k .known)))
+    let z = c .before .before .before .before .before .before in
+    let t = z .args .self in
+    let rules = checked-true _ _ (c .before .before .before .before .before .checked .ensures) (not-false _ (c .before .before .before .if1 .left)) in
+    increment-keeps t (z .args .inserts) _ (long z)
+    (c .refused3 .ensures ∙ increment-past t (z .args .inserts) rules (c .before .before .if2 .left) (omega (arith, facts _ rules .known)))
 
 add-self : tie.Need-add-self
 add-self c = search needs
@@ -54,8 +69,12 @@ done-requires c κs = search needs
 
 returns-4 : tie.Need-returns-4
 returns-4 c =
-    let k = (checked-true (c .before .before .before .before .before .before .before .args .self) (c .before .before .before .before .before .before .checked .result) (c .before .before .before .before .before .before .checked .ensures) (not-false _ (c .before .before .before .before .if1 .left))) in
-    increment-keeps (c .before .before .before .before .before .before .before .args .self) (c .before .before .before .before .before .before .before .args .inserts) _ (long (c .before .before .before .before .before .before .before)) (rw (c .before .let-go .ensures) at (c .done .ensures) ∙ increment-done (c .before .before .before .before .before .before .before .args .self) (c .before .before .before .before .before .before .before .args .inserts) k (c .before .before .before .if2 .left) (omega (arith, facts _ k .known)))
+    let z = c .before .before .before .before .before .before .before in
+    let t = z .args .self in
+    let rules = checked-true _ _ (c .before .before .before .before .before .before .checked .ensures) (not-false _ (c .before .before .before .before .if1 .left)) in
+    increment-keeps t (z .args .inserts) _ (long z) (rw
+    (c .before .let-go .ensures) at (c .done .ensures)
+    ∙ increment-done t (z .args .inserts) rules (c .before .before .before .if2 .left) (omega (arith, facts _ rules .known)))
 
 pub increment-spec : {M : Type 1} → statement M
 increment-spec =

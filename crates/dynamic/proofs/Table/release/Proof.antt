@@ -19,13 +19,23 @@ refused-requires : tie.Need-refused-requires
 refused-requires c κs = search needs
 
 returns : tie.Need-returns
-returns c = release-keeps (c .before .before .before .before .args .self) (c .before .before .before .before .args .stream) _ (whole (c .before .before .before .before)) (c .refused .ensures ∙ release-broken (c .before .before .before .before .args .self) (c .before .before .before .before .args .stream) (checked-false (c .before .before .before .before .args .self) (c .before .before .before .checked .result) (c .before .before .before .checked .ensures) (not-true _ (c .before .if1 .taken))))
+returns c =
+    let z = c .before .before .before .before in
+    let t = z .args .self in
+    let broken = checked-false _ _ (c .before .before .before .checked .ensures) (not-true _ (c .before .if1 .taken)) in
+    release-keeps t (z .args .stream) _ (whole z)
+    (c .refused .ensures ∙ release-broken t (z .args .stream) broken)
 
 refused-requires-2 : tie.Need-refused-requires-2
 refused-requires-2 c κs = search needs
 
 returns-2 : tie.Need-returns-2
-returns-2 c = release-keeps (c .before .before .before .before .before .args .self) (c .before .before .before .before .before .args .stream) _ (whole (c .before .before .before .before .before)) (c .refused2 .ensures ∙ release-open (c .before .before .before .before .before .args .self) (c .before .before .before .before .before .args .stream) (checked-true (c .before .before .before .before .before .args .self) (c .before .before .before .before .checked .result) (c .before .before .before .before .checked .ensures) (not-false _ (c .before .before .if1 .left))) (c .before .if2 .taken))
+returns-2 c =
+    let z = c .before .before .before .before .before in
+    let t = z .args .self in
+    let rules = checked-true _ _ (c .before .before .before .before .checked .ensures) (not-false _ (c .before .before .if1 .left)) in
+    release-keeps t (z .args .stream) _ (whole z)
+    (c .refused2 .ensures ∙ release-open t (z .args .stream) rules (c .before .if2 .taken))
 
 release-requires : tie.Need-release-requires
 release-requires c κs = search needs
@@ -34,13 +44,29 @@ refused-requires-3 : tie.Need-refused-requires-3
 refused-requires-3 c κs = search needs
 
 returns-3 : tie.Need-returns-3
-returns-3 c = release-keeps (c .before .before .before .before .before .before .before .before .args .self) (c .before .before .before .before .before .before .before .before .args .stream) _ (whole (c .before .before .before .before .before .before .before .before)) (c .refused3 .ensures ∙ release-none (c .before .before .before .before .before .before .before .before .args .self) (c .before .before .before .before .before .before .before .before .args .stream) (checked-true (c .before .before .before .before .before .before .before .before .args .self) (c .before .before .before .before .before .before .before .checked .result) (c .before .before .before .before .before .before .before .checked .ensures) (not-false _ (c .before .before .before .before .before .if1 .left))) (c .before .before .before .before .if2 .left) _ (c .before .before .before .release .ensures) (not-true _ (c .before .if3 .taken)))
+returns-3 c =
+    let z = c .before .before .before .before .before .before .before .before in
+    let t = z .args .self in
+    let rules = checked-true _ _ (c .before .before .before .before .before .before .before .checked .ensures)
+    (not-false _ (c .before .before .before .before .before .if1 .left)) in
+    release-keeps t (z .args .stream) _ (whole z)
+    (c .refused3 .ensures
+    ∙ release-none t (z .args .stream) rules (c .before .before .before .before .if2 .left) _ (c .before .before .before .release .ensures)
+    (not-true _ (c .before .if3 .taken)))
 
 done-requires : tie.Need-done-requires
 done-requires c κs = search needs
 
 returns-4 : tie.Need-returns-4
-returns-4 c = release-keeps (c .before .before .before .before .before .before .before .before .before .args .self) (c .before .before .before .before .before .before .before .before .before .args .stream) _ (whole (c .before .before .before .before .before .before .before .before .before)) (c .done .ensures ∙ release-done (c .before .before .before .before .before .before .before .before .before .args .self) (c .before .before .before .before .before .before .before .before .before .args .stream) (checked-true (c .before .before .before .before .before .before .before .before .before .args .self) (c .before .before .before .before .before .before .before .before .checked .result) (c .before .before .before .before .before .before .before .before .checked .ensures) (not-false _ (c .before .before .before .before .before .before .if1 .left))) (c .before .before .before .before .before .if2 .left) _ (c .before .before .before .before .release .ensures) (not-false _ (c .before .before .if3 .left)))
+returns-4 c =
+    let z = c .before .before .before .before .before .before .before .before .before in
+    let t = z .args .self in
+    let rules = checked-true _ _ (c .before .before .before .before .before .before .before .before .checked .ensures)
+    (not-false _ (c .before .before .before .before .before .before .if1 .left)) in
+    release-keeps t (z .args .stream) _ (whole z)
+    (c .done .ensures
+    ∙ release-done t (z .args .stream) rules (c .before .before .before .before .before .if2 .left) _
+    (c .before .before .before .before .release .ensures) (not-false _ (c .before .before .if3 .left)))
 
 pub release-spec : {M : Type 1} → statement M
 release-spec =
