@@ -1,8 +1,8 @@
 -- Begin, abandon and commit: their promise from what they do to the record. Assumes nothing.
 use mathlib.Core.Path.{_≡_, refl, sym, ap, _∙_}
 use mathlib.Core.Bool.{Bool, true, false, cond}
-use mathlib.Core.List.{List, [], _∷_, _++_}
-use mathlib.Core.Option.{Option, some, none}
+use mathlib.Core.List.{List, []}
+use mathlib.Core.Option.{some, none}
 use Prim.Native.Nat.{ℕ, _+_, _-_, _≤_, _<_}
 use native.Mathlib.Omega.{arith}
 use lib.Dec.{leb, ltb}
@@ -12,12 +12,11 @@ use Rattle.answers.specs.Answer.{done}
 use Rattle.answers.specs.Table.{replied, ok}
 use Rattle.answers.specs.declared.Refusal.the-variants.{SectionOpen, NoSection, TrackingFull, BadLargest, BadCall}
 use Rattle.answers.specs.declared.Reply.{Reply}
-use Rattle.entries.specs.Entry.{slots}
 use Rattle.model.specs.Bounds.{queuePlaces, blockedValues, blockedSections}
 use Rattle.model.specs.Section as section
 use Rattle.model.specs.Table as model
 use Rattle.ring.proofs.Keeping.{kept, count-fields}
-use Rattle.tracking.specs.Queue.{sectionOf, sectionsOf, pushing}
+use Rattle.tracking.specs.Queue.{sectionsOf, pushing}
 use Rattle.tracking.specs.Waiting.{waitingOf, blocking, keepsCount}
 use Rattle.tracking.specs.declared.Counted.{Counted}
 use Rattle.tracking.specs.declared.Queue.{Queue}

@@ -1,7 +1,6 @@
 -- What a check of a record tells: whether it keeps its rules, and the lowest entry that a section uses. Assumes nothing.
-use mathlib.Core.Path.{_≡_, refl, sym, ap, _∙_}
+use mathlib.Core.Path.{_≡_, refl, sym, _∙_}
 use mathlib.Core.Bool.{Bool, true, false, cond}
-use Prim.Native.Nat.{ℕ}
 use Rattle.dynamic.specs.Record.{sound, lowestUsed, checking}
 use Rattle.dynamic.specs.declared.Checked.{Checked}
 use Rattle.dynamic.specs.declared.Table.{Table}

@@ -1,5 +1,5 @@
 -- `dynamic::waiting_with`: not above the known received count, or one more. Assumes nothing.
-use mathlib.Core.Path.{_≡_, _∙_}
+use mathlib.Core.Path.{_∙_}
 use borrow.Author.Tests.{le-leb, lt-leb}
 use borrow.Author.Needs.{needs}
 use Rattle.dynamic.proofs.waiting_with.Statement.{statement}

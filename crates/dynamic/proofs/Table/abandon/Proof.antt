@@ -1,5 +1,5 @@
 -- `dynamic::Table::abandon`: a broken record, no section, or one that closes. Assumes nothing.
-use mathlib.Core.Path.{_≡_, _∙_}
+use mathlib.Core.Path.{_∙_}
 use borrow.Author.Tests.{not-true, not-false}
 use Rattle.dynamic.proofs.Sections.{abandon-keeps, abandon-broken, abandon-closed, abandon-done}
 use Rattle.dynamic.proofs.Told.{checked-false, checked-true}

@@ -1,6 +1,5 @@
 -- `dynamic::Table::begin`: a broken record, an open section, or a new one. Assumes nothing.
-use mathlib.Core.Path.{_≡_, _∙_}
-use native.Mathlib.Omega.{arith}
+use mathlib.Core.Path.{_∙_}
 use borrow.Author.Tests.{not-true, not-false}
 use Rattle.ring.proofs.Keeping.{kept}
 use Rattle.dynamic.proofs.Sections.{begin-keeps, begin-broken, begin-open, begin-done}

@@ -1,6 +1,5 @@
 -- `dynamic::Table::commit`: a broken record, no section, a largest past the inserted, no place, no value, or queued. Assumes nothing.
 use mathlib.Core.Path.{_≡_, _∙_}
-use native.Mathlib.Omega.{arith}
 use lib.ListN.{length, length-map}
 use borrow.Author.Tests.{not-true, not-false}
 use Rattle.model.specs.Bounds.{queuePlaces, blockedValues}
