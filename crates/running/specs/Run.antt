@@ -7,6 +7,7 @@ use lib.Dec.{leb}
 use lib.ListN.{length}
 use Rattle.answers.specs.Answer.{Answer, done, refused}
 use Rattle.answers.specs.Table.{Done, ok}
+use Rattle.answers.specs.declared.Refusal.the-variants.{SectionOpen}
 
 -- a whole instruction, and the position past it
 pub record Whole (I : Type 0) : Type 0 where
@@ -50,6 +51,11 @@ run read take (suc k) s at x =
 -- a whole slice: an instruction has at least one byte
 abbrev pub runAll : {S I : Type 0} → (List ℕ → ℕ → Answer (Option (Whole I))) → (S → I → Took S) → List ℕ → S → Ended S
 runAll read take s x = run read take (length s) s 0 x
+
+-- "18 SectionOpen: table call, .. report .. while open"
+abbrev pub unlessOpen : {S O : Type 0} → S → Option O → Ended S → Ended S
+unlessOpen x (some o) e = ends x 0 (refused SectionOpen)
+unlessOpen x none e = e
 
 -- an instruction that a reader of one kind found, as one of any kind
 abbrev pub found : {A B : Type 0} → (A → B) → Answer (Option A) → Answer (Option B)
