@@ -43,7 +43,8 @@ pub enum InstructionRead {
 fn read_duplicate(s: &[u8], at: usize) -> InstructionRead
     ensures { λ r. ⌜ (instructionRead (now (s .entry)) r ≡ ofKind (now (s .entry)) at Duplicate) × Within (now (s .entry)) at r ⌝ }
 {
-    match stream::read_integer(s, at, Kind::Encoder(EncoderInstruction::Duplicate)) {
+    let i = stream::read_integer(s, at, Kind::Encoder(EncoderInstruction::Duplicate));
+    match i {
         IntegerRead::Cut => InstructionRead::Cut,
         IntegerRead::Refused(why) => InstructionRead::Refused(why),
         IntegerRead::Integer { value, next } => InstructionRead::Whole {
@@ -57,11 +58,12 @@ fn read_duplicate(s: &[u8], at: usize) -> InstructionRead
 fn read_capacity(s: &[u8], at: usize) -> InstructionRead
     ensures { λ r. ⌜ (instructionRead (now (s .entry)) r ≡ ofKind (now (s .entry)) at DynamicTableSizeUpdate) × Within (now (s .entry)) at r ⌝ }
 {
-    match stream::read_integer(
+    let i = stream::read_integer(
         s,
         at,
         Kind::Encoder(EncoderInstruction::DynamicTableSizeUpdate),
-    ) {
+    );
+    match i {
         IntegerRead::Cut => InstructionRead::Cut,
         IntegerRead::Refused(why) => InstructionRead::Refused(why),
         IntegerRead::Integer { value, next } => InstructionRead::Whole {
@@ -75,7 +77,8 @@ fn read_capacity(s: &[u8], at: usize) -> InstructionRead
 fn read_literal(s: &[u8], at: usize) -> InstructionRead
     ensures { λ r. ⌜ (instructionRead (now (s .entry)) r ≡ ofKind (now (s .entry)) at InsertWithoutNameRef) × Within (now (s .entry)) at r ⌝ }
 {
-    match stream::read_literal(s, at) {
+    let i = stream::read_literal(s, at);
+    match i {
         LiteralRead::Cut => InstructionRead::Cut,
         LiteralRead::Refused(why) => InstructionRead::Refused(why),
         LiteralRead::Literal {
@@ -100,7 +103,8 @@ fn read_literal(s: &[u8], at: usize) -> InstructionRead
 fn read_name_ref(s: &[u8], at: usize) -> InstructionRead
     ensures { λ r. ⌜ (instructionRead (now (s .entry)) r ≡ ofKind (now (s .entry)) at InsertWithNameRef) × Within (now (s .entry)) at r ⌝ }
 {
-    match stream::read_name_ref(s, at) {
+    let i = stream::read_name_ref(s, at);
+    match i {
         NameRefRead::Cut => InstructionRead::Cut,
         NameRefRead::Refused(why) => InstructionRead::Refused(why),
         NameRefRead::NameRef {
@@ -128,7 +132,8 @@ pub fn read_instruction(s: &[u8], at: usize) -> InstructionRead
     if s.len() <= at {
         return InstructionRead::Cut;
     }
-    match forms::encoder_kind(s[at]) {
+    let kind = forms::encoder_kind(s[at]);
+    match kind {
         EncoderInstruction::Duplicate => read_duplicate(s, at),
         EncoderInstruction::DynamicTableSizeUpdate => read_capacity(s, at),
         EncoderInstruction::InsertWithoutNameRef => read_literal(s, at),
