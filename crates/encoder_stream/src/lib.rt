@@ -108,7 +108,8 @@ fn locate(ring: Ring, index: usize) -> Located
 fn duplicate(ring: Ring, arena: &mut [u8], low: usize, index: usize) -> Applied
     ensures { λ r. ⌜ took r (now (arena .exit)) ≡ applied low (holding ring (now (arena .entry))) (spec-instruction.duplicate index) ⌝ }
 {
-    match locate(ring, index) {
+    let at = locate(ring, index);
+    match at {
         Located::Refused(why) => refused(ring, why),
         Located::At(position) => push(ring, arena, low, Source::CopyOf(position), &[], &[]),
     }
@@ -118,7 +119,8 @@ fn duplicate(ring: Ring, arena: &mut [u8], low: usize, index: usize) -> Applied
 fn insert_named(ring: Ring, arena: &mut [u8], low: usize, index: usize, value: &[u8]) -> Applied
     ensures { λ r. ⌜ took r (now (arena .exit)) ≡ applied low (holding ring (now (arena .entry))) (spec-instruction.nameRef false index (now (value .entry))) ⌝ }
 {
-    match locate(ring, index) {
+    let at = locate(ring, index);
+    match at {
         Located::Refused(why) => refused(ring, why),
         Located::At(position) => push(ring, arena, low, Source::NameOf(position), &[], value),
     }
@@ -128,7 +130,8 @@ fn insert_named(ring: Ring, arena: &mut [u8], low: usize, index: usize, value: &
 fn insert_static(ring: Ring, arena: &mut [u8], low: usize, index: usize, value: &[u8]) -> Applied
     ensures { λ r. ⌜ took r (now (arena .exit)) ≡ applied low (holding ring (now (arena .entry))) (spec-instruction.nameRef true index (now (value .entry))) ⌝ }
 {
-    match static_table::get(index as u64) {
+    let found = static_table::get(index as u64);
+    match found {
         StaticGot::Refused(why) => refused(ring, why),
         StaticGot::Entry {
             start,
@@ -146,7 +149,8 @@ fn insert_static(ring: Ring, arena: &mut [u8], low: usize, index: usize, value: 
 fn set_capacity(ring: Ring, low: usize, capacity: usize) -> Applied
     ensures { λ r. ⌜ ((a : List ℕ) → took r a ≡ applied low (holding ring a) (spec-instruction.capacity capacity)) ⌝ }
 {
-    if let CapacityTest::Refused(why) = dynamic::capacity_test(capacity) {
+    let test = dynamic::capacity_test(capacity);
+    if let CapacityTest::Refused(why) = test {
         return refused(ring, why);
     }
     let cut = ring.cut(low, capacity);
@@ -217,7 +221,8 @@ fn apply_all(mut ring: Ring, arena: &mut [u8], low: usize, s: &[u8]) -> Ran
 {
     let mut at = 0;
     while at < s.len() {
-        match instructions::read_instruction(s, at) {
+        let read = instructions::read_instruction(s, at);
+        match read {
             InstructionRead::Cut => {
                 return ended(ring, at, Reply::Done);
             }
@@ -226,7 +231,8 @@ fn apply_all(mut ring: Ring, arena: &mut [u8], low: usize, s: &[u8]) -> Ran
             }
             InstructionRead::Whole { parsed, next } => {
                 let one = apply(ring, arena, low, s, parsed);
-                if let Reply::Refused(why) = one.reply {
+                let reply = one.reply;
+                if let Reply::Refused(why) = reply {
                     return ended(ring, at, Reply::Refused(why));
                 }
                 let after = one.ring;
@@ -256,12 +262,27 @@ fn write_increment(out: &mut [u8], before: usize, after: usize) -> Finished
         };
     }
     let kind = Kind::Decoder(DecoderInstruction::InsertCountIncrement);
-    match stream::write_integer(out, 0, kind, (after - before) as u64) {
+    let w = stream::write_integer(out, 0, kind, (after - before) as u64);
+    match w {
         Written::Next(written) => Finished {
             written,
             reply: Reply::Done,
         },
         Written::Refused(why) => Finished {
+            written: 0,
+            reply: Reply::Refused(why),
+        },
+    }
+}
+
+// What a call answers for its instructions' answer, and writes.
+fn finish(out: &mut [u8], before: usize, after: usize, reply: Reply) -> Finished
+    requires { ⌜ incrementRoom ≤ length (now out) ⌝ }
+    ensures { λ r. ⌜ Tells (told (replied reply) (after - before)) (now (out .entry)) (now (out .exit)) r ⌝ }
+{
+    match reply {
+        Reply::Done => write_increment(out, before, after),
+        Reply::Refused(why) => Finished {
             written: 0,
             reply: Reply::Refused(why),
         },
@@ -300,27 +321,15 @@ pub fn on_encoder_recv(mut table: Table, arena: &mut [u8], s: &[u8], out: &mut [
     let before = table.ring.inserted;
     let all = apply_all(table.ring, arena, c.low, s);
     let ring = all.ring;
-    let end = finish(out, before, ring.inserted, all.reply);
+    let applied = all.reply;
+    let end = finish(out, before, ring.inserted, applied);
+    let reply = end.reply;
     table.ring = ring;
     Received {
         table,
         consumed: all.consumed,
         inserted: ring.inserted,
         written: end.written,
-        reply: end.reply,
-    }
-}
-
-// What a call answers for its instructions' answer, and writes.
-fn finish(out: &mut [u8], before: usize, after: usize, reply: Reply) -> Finished
-    requires { ⌜ incrementRoom ≤ length (now out) ⌝ }
-    ensures { λ r. ⌜ Tells (told (replied reply) (after - before)) (now (out .entry)) (now (out .exit)) r ⌝ }
-{
-    match reply {
-        Reply::Done => write_increment(out, before, after),
-        Reply::Refused(why) => Finished {
-            written: 0,
-            reply: Reply::Refused(why),
-        },
+        reply,
     }
 }

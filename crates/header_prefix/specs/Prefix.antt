@@ -2,11 +2,12 @@
 use mathlib.Core.Bool.{Bool, true, false, cond}
 use mathlib.Core.List.{List}
 use mathlib.Core.Option.{Option, some, none}
-use Prim.Native.Nat.{ℕ, _+_, _-_, _*_, _/_, _%_, _^_}
+use Prim.Native.Nat.{ℕ, _+_, _-_, _*_, _/_, _^_}
 use lib.Dec.{leb, ltb, eqb}
 use Rattle.answers.specs.Answer.{Answer, done, refused, andThen}
 use Rattle.answers.specs.declared.Refusal.the-variants.{MissingRefs, BadBaseIndex, BadInsertCount, BadCall}
-use Rattle.prefix_int.specs.Integer.{Integer, intAt}
+use Rattle.field.specs.Field.{overhead}
+use Rattle.prefix_int.specs.Integer.{intAt}
 use Rattle.ring.specs.Ring.{largestCount}
 use Rattle.header_prefix.specs.declared.BaseRead.{BaseRead}
 use Rattle.header_prefix.specs.declared.PrefixRead.{PrefixRead}
@@ -15,7 +16,7 @@ use Rattle.header_prefix.specs.declared.PrefixRead.{PrefixRead}
 
 -- "MaxEntries = floor(MaxTableCapacity / 32)"; document 01: "with MaxEntries the capacity in force / 32, rounded down"
 abbrev pub maxEntries : ℕ → ℕ
-maxEntries capacity = capacity / 32
+maxEntries capacity = capacity / overhead
 
 -- "FullRange = 2 * MaxEntries"
 abbrev pub fullRange : ℕ → ℕ

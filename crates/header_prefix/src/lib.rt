@@ -2,10 +2,11 @@
 ghost use mathlib.Core.Path.{_≡_};
 ghost use mathlib.Core.Bool.{cond};
 ghost use mathlib.Core.Option.{some, none};
-ghost use Prim.Native.Nat.{_+_, _≤_};
+ghost use Prim.Native.Nat.{_≤_};
 ghost use Rattle.ring.specs.Ring.{largestCount};
 ghost use Rattle.header_prefix.specs.Prefix.{notZero, requiredCount, baseOf, baseFound, prefixOf, prefixAt, prefixRead};
 use answers::Refusal;
+use field::ESTIMATED_OVERHEAD_BYTES;
 use prefix_int::IntRead;
 use ring::LARGEST_COUNT;
 
@@ -31,9 +32,6 @@ enum BaseRead {
     Refused(Refusal),
 }
 
-// How many bytes of capacity one entry takes at least.
-const SMALLEST_ENTRY: usize = 32;
-
 const LARGEST_BASE: usize = 9223372036854775807;
 
 const COUNT_WIDTH: u32 = 8;
@@ -55,7 +53,7 @@ fn required_count(total: usize, capacity: usize, encoded: u64) -> Required
             count: 0,
         };
     }
-    let max_entries = capacity / SMALLEST_ENTRY;
+    let max_entries = capacity / ESTIMATED_OVERHEAD_BYTES;
     let full_range = 2 * max_entries;
     if (full_range as u64) < encoded {
         return no;
