@@ -18,7 +18,7 @@ use Rattle.forms.specs.declared.DecoderInstruction.the-variants.{InsertCountInc
 use Rattle.forms.specs.declared.Kind.the-variants.{Decoder}
 use Rattle.model.specs.Report as report
 use Rattle.model.specs.Table as model
-use Rattle.running.specs.Run.{Whole, Took, Ended, ends, runAll, found}
+use Rattle.running.specs.Run.{Whole, Took, Ended, ends, runAll, unlessOpen, found}
 use Rattle.stream.specs.Instructions.{OneInteger, integerAt}
 use Rattle.decoder_stream.specs.declared.Reported.{Reported}
 use Rattle.decoder_stream.specs.declared.ReportRead.{ReportRead}
@@ -79,11 +79,6 @@ takesIn t w = record { state = calledIn t w .next; answer = calledIn t w .answer
 
 abbrev pub receivingIn : model.Table → List ℕ → Ended model.Table
 receivingIn t s = runAll reportAt takesIn s t
-
--- "18 SectionOpen: .. report .. while open"
-abbrev pub unlessOpen : model.Table → Option model.Open → Ended model.Table → Ended model.Table
-unlessOpen t (some o) e = ends t 0 (refused SectionOpen)
-unlessOpen t none e = e
 
 -- ---- the promise
 
