@@ -1,1 +1,9 @@
+pub mod Front
 pub mod Applying
+pub mod StaticNames
+pub mod Increments
+pub mod Staying
+pub mod Turns
+pub mod Sources
+pub mod Modelled
+pub mod Receiving

@@ -1,145 +1,140 @@
+-- `encoder_stream::apply`: each instruction's own function; its strings lie in the slice. Assumes nothing.
+use mathlib.Core.Bool.{true, false}
+use native.Mathlib.Omega.{arith}
+use denote.Ref.{now}
+use lib.ListN.{length}
+use Rattle.encoder_stream.specs.Entries.{holding}
+use Rattle.encoder_stream.proofs.Applying.{literal-within, name-ref-within, applies-duplicate, applies-capacity, applies-literal, applies-name-ref}
 use borrow.Author.Needs.{needs}
 use Rattle.encoder_stream.proofs.apply.Statement.{statement}
 use Rattle.encoder_stream.proofs.apply.Tie as tie
-use Rattle.encoder_stream.proofs.apply.Reads as reads
-use Rattle.encoder_stream.proofs.apply.Lts as lts
-use Rattle.encoder_stream.proofs.duplicate.Reads as duplicate-reads
-use Rattle.encoder_stream.proofs.insert_named.Reads as insert-named-reads
-use Rattle.encoder_stream.proofs.insert_static.Reads as insert-static-reads
-use Rattle.encoder_stream.proofs.push.Reads as push-reads
-use Rattle.encoder_stream.proofs.set_capacity.Reads as set-capacity-reads
 
--- src/lib.rt:173:27
+-- an insert's strings lie in the slice
+abbrev at-literal : tie.After-known-told3 → tie.Start
+at-literal c = c .before .before .before .before .before
+
+abbrev at-name-ref : tie.After-known-told4 → tie.Start
+at-name-ref c = c .before .before .before .before .before
+
 enum-known-one : tie.Need-enum-known-one
 enum-known-one c = search needs
 
--- src/lib.rt:173:37
 duplicate-requires : tie.Need-duplicate-requires
 duplicate-requires c κs = search needs
 
--- src/lib.rt:174:26
 enum-known-one-2 : tie.Need-enum-known-one-2
 enum-known-one-2 c = search needs
 
--- src/lib.rt:174:39
 set-capacity-requires : tie.Need-set-capacity-requires
 set-capacity-requires c κs = search needs
 
--- src/lib.rt:176:13
 enum-known-one-3 : tie.Need-enum-known-one-3
 enum-known-one-3 c = search needs
 
--- src/lib.rt:181:28
 add-name-end : tie.Need-add-name-end
-add-name-end c = ?
+add-name-end c = omega (arith, literal-within (length (now (at-literal c .args .s))) (at-literal c .args .one) _ _ _ _ (c .before .one3 .given .1) (at-literal c .pre))
 
--- src/lib.rt:182:29
 add-value-end : tie.Need-add-value-end
-add-value-end c = ?
+add-value-end c = omega (arith, literal-within (length (now (at-literal c .args .s))) (at-literal c .args .one) _ _ _ _ (c .before .one3 .given .1) (at-literal c .pre))
 
--- src/lib.rt:188:17
 sub-push : tie.Need-sub-push
 sub-push c = search needs
 
--- src/lib.rt:188:17
 part-push-start : tie.Need-part-push-start
 part-push-start c = search needs
 
--- src/lib.rt:188:17
 part-push-end : tie.Need-part-push-end
-part-push-end c = ?
+part-push-end c = let told = c .before in literal-within (length (now (at-literal told .args .s))) (at-literal told .args .one) _ _ _ _ (told .before .one3 .given .1) (at-literal told .pre) .0
 
--- src/lib.rt:189:17
 sub-push-2 : tie.Need-sub-push-2
 sub-push-2 c = search needs
 
--- src/lib.rt:189:17
 part-push-start-2 : tie.Need-part-push-start-2
 part-push-start-2 c = search needs
 
--- src/lib.rt:189:17
 part-push-end-2 : tie.Need-part-push-end-2
-part-push-end-2 c = ?
+part-push-end-2 c = let told = c .before .before in literal-within (length (now (at-literal told .args .s))) (at-literal told .args .one) _ _ _ _ (told .before .one3 .given .1) (at-literal told .pre) .1
 
--- src/lib.rt:183:13
 push-requires : tie.Need-push-requires
 push-requires c κs = search needs
 
--- src/lib.rt:193:13
 enum-known-one-4 : tie.Need-enum-known-one-4
 enum-known-one-4 c = search needs
 
--- src/lib.rt:198:23
 add-end : tie.Need-add-end
-add-end c = ?
+add-end c = omega (arith, name-ref-within (length (now (at-name-ref c .args .s))) (at-name-ref c .args .one) _ _ _ _ (c .before .one4 .given .1) (at-name-ref c .pre))
 
--- src/lib.rt:200:56
 sub-insert-static : tie.Need-sub-insert-static
 sub-insert-static c = search needs
 
--- src/lib.rt:200:56
 part-insert-static-start : tie.Need-part-insert-static-start
 part-insert-static-start c = search needs
 
--- src/lib.rt:200:56
 part-insert-static-end : tie.Need-part-insert-static-end
-part-insert-static-end c = ?
+part-insert-static-end c = let told = c .before .before in name-ref-within (length (now (at-name-ref told .args .s))) (at-name-ref told .args .one) _ _ _ _ (told .before .one4 .given .1) (at-name-ref told .pre)
 
--- src/lib.rt:200:17
 insert-static-requires : tie.Need-insert-static-requires
 insert-static-requires c κs = search needs
 
--- src/lib.rt:202:55
 sub-insert-named : tie.Need-sub-insert-named
 sub-insert-named c = search needs
 
--- src/lib.rt:202:55
 part-insert-named-start : tie.Need-part-insert-named-start
 part-insert-named-start c = search needs
 
--- src/lib.rt:202:55
 part-insert-named-end : tie.Need-part-insert-named-end
-part-insert-named-end c = ?
+part-insert-named-end c = let told = c .before .before in name-ref-within (length (now (at-name-ref told .args .s))) (at-name-ref told .args .one) _ _ _ _ (told .before .one4 .given .1) (at-name-ref told .pre)
 
--- src/lib.rt:202:17
 insert-named-requires : tie.Need-insert-named-requires
 insert-named-requires c κs = search needs
 
--- src/lib.rt:168:1
 same-length : tie.Need-same-length
 same-length c = search needs
 
--- src/lib.rt:168:1
 returns : tie.Need-returns
-returns c = ?
+returns c =
+    let call = c .before .before in
+    let told = call .before .before in
+    let a = told .before .before .before .before .before .args in
+    applies-duplicate (a .low) (holding (a .ring) (now (a .arena))) (now (a .s)) (a .one) _ (told .before .one .given .1) (call .duplicate .ensures)
 
--- src/lib.rt:168:1
 returns-2 : tie.Need-returns-2
-returns-2 c = ?
+returns-2 c =
+    let told = c .before in
+    let a = told .before .before .before .before .before .args in
+    applies-capacity (a .low) (holding (a .ring) (now (a .arena))) (now (a .s)) (a .one) _ (told .before .one2 .given .1) (c .set-capacity .ensures _)
 
--- src/lib.rt:168:1
 same-length-2 : tie.Need-same-length-2
 same-length-2 c = search needs
 
--- src/lib.rt:168:1
 returns-3 : tie.Need-returns-3
-returns-3 c = ?
+returns-3 c =
+    let call = c .before .before in
+    let told = call .before .before .before .before in
+    let a = at-literal told .args in
+    applies-literal (a .low) (holding (a .ring) (now (a .arena))) (now (a .s)) (a .one) _ _ _ _ (told .before .one3 .given .1) (call .push .ensures)
 
--- src/lib.rt:168:1
 same-length-3 : tie.Need-same-length-3
 same-length-3 c = search needs
 
--- src/lib.rt:168:1
 returns-4 : tie.Need-returns-4
-returns-4 c = ?
+returns-4 c =
+    let call = c .before .before in
+    let then = call .before .before .before in
+    let told = then .before in
+    let a = at-name-ref told .args in
+    applies-name-ref (a .low) (holding (a .ring) (now (a .arena))) (now (a .s)) (a .one) _ true _ _ _ (told .before .one4 .given .1) (then .if1 .taken) (call .insert-static .ensures)
 
--- src/lib.rt:168:1
 same-length-4 : tie.Need-same-length-4
 same-length-4 c = search needs
 
--- src/lib.rt:168:1
 returns-5 : tie.Need-returns-5
-returns-5 c = ?
+returns-5 c =
+    let call = c .before .before in
+    let then = call .before .before .before in
+    let told = then .before in
+    let a = at-name-ref told .args in
+    applies-name-ref (a .low) (holding (a .ring) (now (a .arena))) (now (a .s)) (a .one) _ false _ _ _ (told .before .one4 .given .1) (then .if1 .left) (call .insert-named .ensures)
 
 pub apply-spec : {M : Type 1} → statement M
 apply-spec =

@@ -29,13 +29,21 @@ push-requires : tie.Need-push-requires
 push-requires c κs = search needs
 
 returns : tie.Need-returns
-returns c = ?
+returns c =
+    let a = c .before .before .before .before .before .before .args in
+    let z = c .before .before .before .before in
+    rw (c .refused .ensures) (duplicate-unnamed (a .low) (a .ring) (now (a .arena)) (a .index) _ (sym (z .locate .ensures) ∙ ap located (c .before .before .at .given .1)))
 
 same-length : tie.Need-same-length
 same-length c = search needs
 
 returns-2 : tie.Need-returns-2
-returns-2 c = ?
+returns-2 c =
+    let pushed = c .before .before in
+    let at = pushed .before .before .before .before .before in
+    let z = at .before .before in
+    let a = z .before .before .args in
+    pushed .push .ensures ∙ duplicate-pushed (a .low) (a .ring) (now (a .arena)) (a .index) _ (sym (z .locate .ensures) ∙ ap located (at .at2 .given .1))
 
 pub duplicate-spec : {M : Type 1} → statement M
 duplicate-spec =

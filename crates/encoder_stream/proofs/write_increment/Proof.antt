@@ -1,53 +1,50 @@
+-- `encoder_stream::write_increment`: nothing, too many, or the bytes of the increment. Assumes nothing.
+use Prim.Native.Nat.{_-_}
+use denote.Ref.{now}
+use native.Mathlib.Omega.{arith}
+use Rattle.encoder_stream.proofs.Increments.{none-inserted, too-many, one-increment, never-refused}
 use borrow.Author.Needs.{needs}
 use Rattle.encoder_stream.proofs.write_increment.Statement.{statement}
 use Rattle.encoder_stream.proofs.write_increment.Tie as tie
-use Rattle.encoder_stream.proofs.write_increment.Reads as reads
-use Rattle.encoder_stream.proofs.write_increment.Lts as lts
-use Rattle.stream.proofs.write_integer.Reads as write-integer-reads
 
--- src/lib.rt:252:9
 returns : tie.Need-returns
-returns c = ?
+returns c = let a = c .before .before .args in none-inserted (a .after - a .before) (now (a .out)) (omega arith)
 
--- src/lib.rt:257:23
 sub-if2 : tie.Need-sub-if2
 sub-if2 c = search needs
 
--- src/lib.rt:258:9
 returns-2 : tie.Need-returns-2
-returns-2 c = ?
+returns-2 c = let a = c .before .before .before .args in too-many (a .after - a .before) (now (a .out)) (omega arith)
 
--- src/lib.rt:264:50
 sub-write-integer : tie.Need-sub-write-integer
 sub-write-integer c = search needs
 
--- src/lib.rt:264:9
 write-integer-requires : tie.Need-write-integer-requires
 write-integer-requires c κs = search needs
 
--- src/lib.rt:266:23
 enum-known-w : tie.Need-enum-known-w
 enum-known-w c = search needs
 
--- src/lib.rt:270:26
 enum-known-w-2 : tie.Need-enum-known-w-2
 enum-known-w-2 c = search needs
 
--- src/lib.rt:247:1
 same-length : tie.Need-same-length
 same-length c = search needs
 
--- src/lib.rt:247:1
 returns-3 : tie.Need-returns-3
-returns-3 c = ?
+returns-3 c =
+    let w = c .before .before .before .before .before in
+    let a = w .before .before .before .before .before .args in
+    one-increment (a .after - a .before) (now (a .out)) (omega arith) (omega arith) (omega arith) _ (w .write-integer .result) (w .write-integer .ensures) _ (c .before .w .given .1)
 
--- src/lib.rt:247:1
 same-length-2 : tie.Need-same-length-2
 same-length-2 c = search needs
 
--- src/lib.rt:247:1
 returns-4 : tie.Need-returns-4
-returns-4 c = ?
+returns-4 c =
+    let w = c .before .before .before .before .before in
+    let a = w .before .before .before .before .before .args in
+    absurd (never-refused (a .after - a .before) (now (a .out)) (omega arith) (omega arith) (omega arith) _ (w .write-integer .result) (w .write-integer .ensures) _ (c .before .w2 .given .1))
 
 pub write-increment-spec : {M : Type 1} → statement M
 write-increment-spec =
