@@ -59,7 +59,7 @@ struct Finished {
 const MOST_INSERTS: usize = 255;
 
 // How many bytes an increment may take.
-const INCREMENT_ROOM: usize = 3;
+pub const INCREMENT_ROOM: usize = 3;
 
 // How long the longest name of the static table is.
 const LONGEST_NAME: usize = 32;

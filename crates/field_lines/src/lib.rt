@@ -1,7 +1,8 @@
 // The field that a line of a section stands for, RFC 9204 4.5.2 to 4.5.6: where its name and its value stand.
 ghost use mathlib.Core.Path.{_≡_};
 ghost use mathlib.Core.List.{List};
-ghost use Prim.Native.Nat.{ℕ, _-_};
+ghost use Prim.Native.Nat.{ℕ, _+_, _-_, _^_, _≤_, _<_};
+ghost use lib.ListN.{length};
 ghost use Rattle.answers.specs.Answer.{done, andThen};
 ghost use Rattle.instructions.specs.Instruction.{stretch};
 ghost use Rattle.field_lines.specs.declared.FieldRead.{FieldRead};
@@ -57,7 +58,7 @@ pub enum EntryRead {
 
 // A u16 as a usize.
 fn wide(x: u16) -> usize
-    ensures { λ r. ⌜ r ≡ x ⌝ }
+    ensures { λ r. ⌜ (r ≡ x) × (r < 2 ^ 16) ⌝ }
 {
     x as usize
 }
@@ -140,7 +141,9 @@ pub fn entry_static(entry: Reference) -> EntryRead
 
 // A whole entry.
 fn indexed_field(entry: EntryRead, next: usize) -> FieldRead
+    requires { ⌜ EntryInside entry ⌝ }
     ensures { λ r. ⌜ ((s a : List ℕ) → fieldRead s a r ≡ andThen (entryRead a entry) (λ f. done (record { field = f; next = next }))) ⌝ }
+    ensures { λ r. ⌜ ((s : List ℕ) (at : ℕ) → at < next → next ≤ length s → FieldInside s at r) ⌝ }
 {
     match entry {
         EntryRead::Entry { name, value } => FieldRead::Field { name, value, next },
@@ -150,7 +153,9 @@ fn indexed_field(entry: EntryRead, next: usize) -> FieldRead
 
 // An entry's name, and a value in the section.
 fn named_field(entry: EntryRead, start: usize, len: usize, next: usize) -> FieldRead
+    requires { ⌜ EntryInside entry ⌝ }
     ensures { λ r. ⌜ ((s a : List ℕ) → fieldRead s a r ≡ andThen (entryRead a entry) (λ f. done (record { field = record { name = f .name; value = stretch s start len }; next = next }))) ⌝ }
+    ensures { λ r. ⌜ ((s : List ℕ) (at : ℕ) → start + len ≤ length s → at < next → next ≤ length s → FieldInside s at r) ⌝ }
 {
     match entry {
         EntryRead::Entry { name, value: _ } => FieldRead::Field {
