@@ -22,7 +22,7 @@ use Rattle.static_table.proofs.Table.{entries, entry-placed}
 use Rattle.vas.specs.Vas.{located}
 use Rattle.vas.specs.declared.Located.{Located}
 use Rattle.vas.specs.declared.Located.the-variants.{At}
-use Rattle.field_lines.specs.Line.{staticField, liveAt, liveOf, textIn, TextInside, PositionLive, fieldRead, FieldInside, entryRead, EntryInside}
+use Rattle.field_lines.specs.Line.{staticField, liveAt, liveOf, textIn, TextInside, PositionLive, fieldRead, FieldInside, entryRead, EntryInside, NotStored, EntryFixed}
 use Rattle.field_lines.specs.declared.EntryRead.{EntryRead}
 use Rattle.field_lines.specs.declared.FieldRead.{FieldRead}
 use Rattle.field_lines.specs.declared.Text.{Text}
@@ -100,3 +100,7 @@ module _ (e : EntryRead) (n v : Text) (is : e ≡ EntryRead.Entry n v) (inside :
     pub named-inside : (s : List ℕ) (at : ℕ) → p + k ≤ length s → at < next → next ≤ length s
         → FieldInside s at (FieldRead.Field n (Text.Input p k) next)
     named-inside s at value past within = (text-inside (length s) n (strings .0), value, past, within)
+
+-- an entry with no string in an arena
+pub entry-fixed : (e : EntryRead) (n v : Text) → e ≡ EntryRead.Entry n v → EntryFixed e → NotStored n × NotStored v
+entry-fixed e n v q h = rw q at h

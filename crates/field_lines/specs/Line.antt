@@ -127,3 +127,17 @@ liveOf r a = record { fields = fieldsOf r a; inserted = r .inserted; dropped = r
 abbrev pub PositionLive : ℕ → Located → Type 0
 PositionLive m (At p) = p < m
 PositionLive m (Located.Refused r) = Unit {0}
+
+-- with no table no string stands in an arena
+abbrev pub NotStored : Text → Type 0
+NotStored (Text.Input p n) = Unit {0}
+NotStored (Text.Fixed p n) = Unit {0}
+NotStored (Text.Stored p n) = ⊥
+
+abbrev pub EntryFixed : EntryRead → Type 0
+EntryFixed (EntryRead.Entry n v) = NotStored n × NotStored v
+EntryFixed (EntryRead.Refused r) = Unit {0}
+
+abbrev pub FieldFixed : FieldRead → Type 0
+FieldFixed (FieldRead.Field n v e) = NotStored n × NotStored v
+FieldFixed (FieldRead.Refused r) = Unit {0}

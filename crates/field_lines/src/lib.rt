@@ -20,6 +20,8 @@ ghost use Rattle.field_lines.specs.Line.{
   FieldInside,
   entryRead,
   EntryInside,
+  EntryFixed,
+  FieldFixed,
   staticField,
   liveOf,
 };
@@ -67,6 +69,7 @@ fn wide(x: u16) -> usize
 pub fn static_entry(index: u64) -> EntryRead
     ensures { λ r. ⌜ ((a : List ℕ) → entryRead a r ≡ staticField index) ⌝ }
     ensures { λ r. ⌜ EntryInside r ⌝ }
+    ensures { λ r. ⌜ EntryFixed r ⌝ }
 {
     let found = static_table::get(index);
     match found {
@@ -131,6 +134,7 @@ pub fn entry_on(ring: Ring, base: usize, entry: Reference) -> EntryRead
 pub fn entry_static(entry: Reference) -> EntryRead
     ensures { λ r. ⌜ ((a : List ℕ) → entryRead a r ≡ entryStatic entry) ⌝ }
     ensures { λ r. ⌜ EntryInside r ⌝ }
+    ensures { λ r. ⌜ EntryFixed r ⌝ }
 {
     match entry {
         Reference::Static(i) => static_entry(i),
@@ -144,6 +148,7 @@ fn indexed_field(entry: EntryRead, next: usize) -> FieldRead
     requires { ⌜ EntryInside entry ⌝ }
     ensures { λ r. ⌜ ((s a : List ℕ) → fieldRead s a r ≡ andThen (entryRead a entry) (λ f. done (record { field = f; next = next }))) ⌝ }
     ensures { λ r. ⌜ ((s : List ℕ) (at : ℕ) → at < next → next ≤ length s → FieldInside s at r) ⌝ }
+    ensures { λ r. ⌜ (EntryFixed entry → FieldFixed r) ⌝ }
 {
     match entry {
         EntryRead::Entry { name, value } => FieldRead::Field { name, value, next },
@@ -156,6 +161,7 @@ fn named_field(entry: EntryRead, start: usize, len: usize, next: usize) -> Field
     requires { ⌜ EntryInside entry ⌝ }
     ensures { λ r. ⌜ ((s a : List ℕ) → fieldRead s a r ≡ andThen (entryRead a entry) (λ f. done (record { field = record { name = f .name; value = stretch s start len }; next = next }))) ⌝ }
     ensures { λ r. ⌜ ((s : List ℕ) (at : ℕ) → start + len ≤ length s → at < next → next ≤ length s → FieldInside s at r) ⌝ }
+    ensures { λ r. ⌜ (EntryFixed entry → FieldFixed r) ⌝ }
 {
     match entry {
         EntryRead::Entry { name, value: _ } => FieldRead::Field {
@@ -238,6 +244,7 @@ fn is_post_base(kind: HeaderBlockField) -> bool
 pub fn read_static(s: &[u8], at: usize) -> FieldRead
     ensures { λ r. ⌜ ((a : List ℕ) → fieldRead (now (s .entry)) a r ≡ lineStatic (now (s .entry)) at) ⌝ }
     ensures { λ r. ⌜ FieldInside (now (s .entry)) at r ⌝ }
+    ensures { λ r. ⌜ FieldFixed r ⌝ }
 {
     if s.len() <= at {
         return FieldRead::Refused(Refusal::UnexpectedEnd);

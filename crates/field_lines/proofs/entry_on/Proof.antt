@@ -43,7 +43,7 @@ returns c =
     let told = c .before .before in
     let z = told .before .before .args in (
       λ a. c .static-entry .ensures .0 a ∙ ap (entryOn (liveOf (z .ring) a) (z .base)) (sym (told .entry .given .1)),
-      c .static-entry .ensures .1,
+      c .static-entry .ensures .1 .0,
     )
 
 returns-2 : tie.Need-returns-2

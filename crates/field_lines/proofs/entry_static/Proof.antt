@@ -19,13 +19,13 @@ enum-told-2 c = search needs
 
 returns : tie.Need-returns
 returns c =
-    (λ a. c .static-entry .ensures .0 a ∙ ap entryStatic (sym (c .before .before .entry .given .1)), c .static-entry .ensures .1)
+    (λ a. c .static-entry .ensures .0 a ∙ ap entryStatic (sym (c .before .before .entry .given .1)), (c .static-entry .ensures .1 .0, c .static-entry .ensures .1 .1))
 
 returns-2 : tie.Need-returns-2
-returns-2 c = (λ a. rw (c .enum-told .given .1), tt)
+returns-2 c = (λ a. rw (c .enum-told .given .1), (tt, tt))
 
 returns-3 : tie.Need-returns-3
-returns-3 c = (λ a. rw (c .enum-told2 .given .1), tt)
+returns-3 c = (λ a. rw (c .enum-told2 .given .1), (tt, tt))
 
 pub entry-static-spec : {M : Type 1} → statement M
 entry-static-spec =

@@ -49,7 +49,7 @@ returns c =
     let h = sym (read .read-line .ensures) ∙ ap lineRead (line .line .given .1) in
     let lies = line-lies s (z .at) _ h in (
       λ a. c .indexed-field .ensures .0 s a ∙ of-indexed (entryOn (liveOf (z .ring) a) (z .base)) s (lineAt s (z .at)) _ _ _ h (c .before .entry-on .ensures .0 a),
-      c .indexed-field .ensures .1 s (z .at) (lies .0) (lies .1),
+      c .indexed-field .ensures .1 .0 s (z .at) (lies .0) (lies .1),
     )
 
 returns-2 : tie.Need-returns-2
@@ -62,7 +62,7 @@ returns-2 c =
     let h = sym (read .read-line .ensures) ∙ ap lineRead (line .line2 .given .1) in
     let lies = line-lies s (z .at) _ h in (
       λ a. c .named-field .ensures .0 s a ∙ of-named (entryOn (liveOf (z .ring) a) (z .base)) s (lineAt s (z .at)) _ _ _ _ _ h (c .before .entry-on2 .ensures .0 a),
-      c .named-field .ensures .1 s (z .at) (lies .0) (lies .1) (lies .2),
+      c .named-field .ensures .1 .0 s (z .at) (lies .0) (lies .1) (lies .2),
     )
 
 returns-3 : tie.Need-returns-3

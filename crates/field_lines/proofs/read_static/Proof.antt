@@ -25,7 +25,7 @@ no-post-base c =
 returns : tie.Need-returns
 returns c =
     let z = c .before .before .args in
-    (λ a. static-ended (now (z .s)) (z .at) (c .if1 .taken), tt)
+    (λ a. static-ended (now (z .s)) (z .at) (c .if1 .taken), (tt, tt))
 
 shared-slice-read-line-kind : tie.Need-shared-slice-read-line-kind
 shared-slice-read-line-kind c = search needs
@@ -43,7 +43,7 @@ returns-2 c =
     let byte = kind .before .before in
     let z = byte .before .before .args in
     let is = sym (post .is-post-base .ensures ∙ ap isPostBase (kind .line-kind .ensures)) ∙ c .if2 .taken in
-    (λ a. static-post-base (now (z .s)) (z .at) (byte .if1 .left) is, tt)
+    (λ a. static-post-base (now (z .s)) (z .at) (byte .if1 .left) is, (tt, tt))
 
 read-line-requires : tie.Need-read-line-requires
 read-line-requires c κs = search needs
@@ -55,7 +55,7 @@ entry-static-requires : tie.Need-entry-static-requires
 entry-static-requires c κs = search needs
 
 indexed-field-requires : tie.Need-indexed-field-requires
-indexed-field-requires c κs = c .entry-static .ensures .1
+indexed-field-requires c κs = c .entry-static .ensures .1 .0
 
 enum-known-line-2 : tie.Need-enum-known-line-2
 enum-known-line-2 c = search needs
@@ -64,7 +64,7 @@ entry-static-requires-2 : tie.Need-entry-static-requires-2
 entry-static-requires-2 c κs = search needs
 
 named-field-requires : tie.Need-named-field-requires
-named-field-requires c κs = c .entry-static2 .ensures .1
+named-field-requires c κs = c .entry-static2 .ensures .1 .0
 
 enum-known-line-3 : tie.Need-enum-known-line-3
 enum-known-line-3 c = search needs
@@ -84,7 +84,7 @@ returns-3 c =
     let h = sym (read .read-line .ensures) ∙ ap lineRead (line .line .given .1) in
     let lies = line-lies s (z .at) _ h in (
       λ a. c .indexed-field .ensures .0 s a ∙ of-indexed entryStatic s (lineAt s (z .at)) _ _ _ h (c .before .entry-static .ensures .0 a) ∙ no-post-base (read .before),
-      c .indexed-field .ensures .1 s (z .at) (lies .0) (lies .1),
+      (c .indexed-field .ensures .1 .0 s (z .at) (lies .0) (lies .1), c .indexed-field .ensures .1 .1 (c .before .entry-static .ensures .1 .1)),
     )
 
 returns-4 : tie.Need-returns-4
@@ -96,7 +96,7 @@ returns-4 c =
     let h = sym (read .read-line .ensures) ∙ ap lineRead (line .line2 .given .1) in
     let lies = line-lies s (z .at) _ h in (
       λ a. c .named-field .ensures .0 s a ∙ of-named entryStatic s (lineAt s (z .at)) _ _ _ _ _ h (c .before .entry-static2 .ensures .0 a) ∙ no-post-base (read .before),
-      c .named-field .ensures .1 s (z .at) (lies .0) (lies .1) (lies .2),
+      (c .named-field .ensures .1 .0 s (z .at) (lies .0) (lies .1) (lies .2), c .named-field .ensures .1 .1 (c .before .entry-static2 .ensures .1 .1)),
     )
 
 returns-5 : tie.Need-returns-5
@@ -107,7 +107,7 @@ returns-5 c =
     let s = now (z .s) in
     let h = sym (read .read-line .ensures) ∙ ap lineRead (line .line3 .given .1) in
     rw (c .literal-field .ensures)
-    (λ a. of-literal entryStatic s (lineAt s (z .at)) _ _ _ _ _ h ∙ no-post-base (read .before), line-lies s (z .at) _ h)
+    (λ a. of-literal entryStatic s (lineAt s (z .at)) _ _ _ _ _ h ∙ no-post-base (read .before), (line-lies s (z .at) _ h, (tt, tt)))
 
 returns-6 : tie.Need-returns-6
 returns-6 c =
@@ -115,7 +115,7 @@ returns-6 c =
     let read = line .before .before in
     let z = entry (read .before) .args in
     let h = sym (read .read-line .ensures) ∙ ap lineRead (line .line4 .given .1) in
-    (λ a. of-refused entryStatic (now (z .s)) (lineAt (now (z .s)) (z .at)) _ h ∙ no-post-base (read .before), tt)
+    (λ a. of-refused entryStatic (now (z .s)) (lineAt (now (z .s)) (z .at)) _ h ∙ no-post-base (read .before), (tt, tt))
 
 pub read-static-spec : {M : Type 1} → statement M
 read-static-spec =

@@ -28,12 +28,12 @@ returns c =
     let g = c .before .before .before in
     let h = sym (g .get .ensures) ∙ ap got (c .before .found .given .1) in
     let f = entry-placed (g .before .args .index) _ h in
-    (λ a. static-done (g .before .args .index) _ h, (omega (arith, f .inside), omega (arith, f .inside)))
+    (λ a. static-done (g .before .args .index) _ h, ((omega (arith, f .inside), omega (arith, f .inside)), (tt, tt)))
 
 returns-2 : tie.Need-returns-2
 returns-2 c =
     let g = c .before .before .before in
-    (λ a. static-refused (g .before .args .index) _ (sym (g .get .ensures) ∙ ap got (c .before .found2 .given .1)), tt)
+    (λ a. static-refused (g .before .args .index) _ (sym (g .get .ensures) ∙ ap got (c .before .found2 .given .1)), (tt, tt))
 
 pub static-entry-spec : {M : Type 1} → statement M
 static-entry-spec =
