@@ -21,7 +21,6 @@ use Rattle.dynamic.specs.declared.Table.{Table}
 use Rattle.dynamic.proofs.Reports.{release-keeps, release-done, release-none, increment-keeps, increment-done, increment-past}
 use Rattle.dynamic.proofs.Sound.{facts}
 use Rattle.dynamic.proofs.Steps.{open-section, no-section}
-use Rattle.model.specs.Bounds.{queuePlaces, blockedValues}
 use Rattle.model.specs.Table as model
 use Rattle.ring.specs.Ring.{largestCount}
 use Rattle.running.specs.Run.{Whole, Ended, ends, run, runAll, unlessOpen}
@@ -38,6 +37,7 @@ use Rattle.decoder_stream.specs.Reports.{
   increment as counting,
   reportAt,
   called,
+  Ready,
   takes,
   receiving,
   reported,
@@ -50,12 +50,6 @@ use Rattle.decoder_stream.specs.declared.Reported.{Reported}
 use Rattle.decoder_stream.proofs.Reading.{report-bounded}
 
 -- ---- a table that reports are applied to
-
-pub record Ready (t : Table) : Type 0 where
-  pub rules : sound t ≡ true
-  pub closed : t .active ≡ false
-  pub places : length (t .queue .places) ≡ queuePlaces
-  pub values : length (t .waiting .values) ≡ blockedValues
 
 module _ (t : Table) (g : Ready t) where
   called-keeps : (w : Report) → Keeps t (called t w) (called t w) (λ m. calledIn m w)
@@ -97,7 +91,7 @@ module _ (t : Table) (g : Ready t) where
             values = let-go-length (t .waiting) (facts t (g .rules) .waiting) (g .values) (t .known + n);
           })
 
-  called-ready : (w : Report) → Ready (called t w .table)
+  pub called-ready : (w : Report) → Ready (called t w .table)
   called-ready (acknowledgement stream) = release-ready stream
   called-ready (cancellation stream) = release-ready stream
   called-ready (counting n) = increment-ready n
@@ -182,6 +176,11 @@ shows a =
       good = called-ready;
     }
 
+-- on a table that is ready a call is its reports
+pub receiving-reports : (t : Table) (s : List ℕ) → Ready t → runAll reportAt takes s t ≡ receiving t s
+unfolding receiving
+receiving-reports t s g = rw (g .rules, g .closed)
+
 module _ (t : Table) (s : List ℕ) (r : Reported) where
   pub receives-broken : sound t ≡ false → r ≡ record { table = t; consumed = 0; reply = Reply.Refused BadCall } → Receives t s r
   unfolding receiving
@@ -204,10 +203,9 @@ module _ (t : Table) (s : List ℕ) (r : Reported) where
       }
 
   pub receives-run : Ready t → reported r ≡ runAll reportAt takes s t → Receives t s r
-  unfolding receiving
   receives-run g e =
       record {
-        next = e ∙ rw (g .rules, g .closed);
+        next = e ∙ receiving-reports t s g;
         model = λ k a.
             ap (seen (λ (x : Table). view x a)) e
             ∙ run-shown (λ (x : Table). view x a) Ready takes takesIn (shows a) reportAt s (length s) 0 t g

@@ -1,10 +1,10 @@
 -- A call on the decoder stream, RFC 9204 4.4: "a call on the decoder stream applies its reports in order and writes nothing".
 use mathlib.Core.Path.{_≡_}
-use mathlib.Core.Bool.{true, cond}
+use mathlib.Core.Bool.{true, false, cond}
 use mathlib.Core.List.{List}
 use mathlib.Core.Option.{Option, some, none}
 use Prim.Native.Nat.{ℕ}
-use lib.ListN.{getD}
+use lib.ListN.{length, getD}
 use Rattle.answers.specs.Answer.{Answer, done, refused}
 use Rattle.answers.specs.Table.{Done, replied}
 use Rattle.answers.specs.declared.Refusal.the-variants.{SectionOpen, BadCall}
@@ -16,6 +16,7 @@ use Rattle.forms.specs.Forms.{decoderKind}
 use Rattle.forms.specs.declared.DecoderInstruction.{DecoderInstruction}
 use Rattle.forms.specs.declared.DecoderInstruction.the-variants.{InsertCountIncrement, StreamCancel, HeaderAck}
 use Rattle.forms.specs.declared.Kind.the-variants.{Decoder}
+use Rattle.model.specs.Bounds.{queuePlaces, blockedValues}
 use Rattle.model.specs.Report as report
 use Rattle.model.specs.Table as model
 use Rattle.running.specs.Run.{Whole, Took, Ended, ends, runAll, unlessOpen, found}
@@ -28,6 +29,7 @@ pub data Report : Type 0 where
   acknowledgement : ℕ → Report
   cancellation : ℕ → Report
   increment : ℕ → Report
+  deriving Discrete as Report-discrete
 
 abbrev pub reportOf : DecoderInstruction → ℕ → Report
 reportOf InsertCountIncrement v = increment v
@@ -53,6 +55,13 @@ abbrev pub called : Table → Report → Replied
 called t (acknowledgement stream) = calls.release t stream
 called t (cancellation stream) = calls.release t stream
 called t (increment n) = calls.increment t n
+
+-- a table that reports are applied to: it keeps its rules, no section is open, and two arrays are as long as they are in every record of the program
+pub record Ready (t : Table) : Type 0 where
+  pub rules : sound t ≡ true
+  pub closed : t .active ≡ false
+  pub places : length (t .queue .places) ≡ queuePlaces
+  pub values : length (t .waiting .values) ≡ blockedValues
 
 abbrev pub takes : Table → Report → Took Table
 takes t w = record { state = called t w .table; answer = replied (called t w .reply) }

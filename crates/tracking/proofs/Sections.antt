@@ -203,6 +203,13 @@ module _ (q : Queue) (h : q .queued ≤ queuePlaces) (long : length (q .places) 
     pub released-none : releasing q s .made ≡ false → withoutOldest s (sectionsOf q) ≡ none
     released-none e = rw e at released-is
 
+    -- where nothing is released the queue stays
+    pub not-released : releasing q s .made ≡ false → releasing q s .queue ≡ q
+    unfolding behind
+    not-released e =
+        let none : has s (queuedIn q) ≡ false = sym (ap (λ (r : Queued). r .made) releasing-is) ∙ e in
+        ap (λ (r : Queued). r .queue) releasing-is ∙ rw (none, without-none s (queuedIn q) none) (sym (is-packed q (omega arith)))
+
     pub released-places : length (releasing q s .queue .places) ≡ queuePlaces
     unfolding behind
     released-places =

@@ -12,9 +12,9 @@ use Rattle.dynamic.proofs.Reports.{release-done, release-none, increment-past}
 use Rattle.dynamic.proofs.Sound.{facts}
 use Rattle.ring.specs.Ring.{largestCount}
 use Rattle.running.specs.Run.{Whole}
-use Rattle.decoder_stream.specs.Reports.{Report, acknowledgement, cancellation, increment, reportAt, reportRead, reported}
+use Rattle.decoder_stream.specs.Reports.{Report, acknowledgement, cancellation, increment, reportAt, reportRead, Ready, reported}
 use Rattle.decoder_stream.proofs.Reading.{report-bounded}
-use Rattle.decoder_stream.proofs.Receiving.{Ready, released-call, increment-left, Going, going, ends-over, ends-cut, ends-bad, ends-refused, goes-on}
+use Rattle.decoder_stream.proofs.Receiving.{released-call, increment-left, Going, going, ends-over, ends-cut, ends-bad, ends-refused, goes-on}
 use borrow.Author.Needs.{needs}
 use Rattle.decoder_stream.proofs.receive_all.Statement.{statement}
 use Rattle.decoder_stream.proofs.receive_all.Tie as tie

@@ -1,0 +1,4 @@
+pub mod Reports
+pub mod Swaps
+pub mod Batch
+pub mod Slices
