@@ -16,15 +16,25 @@ pub const TABLES: usize = 4;
 
 // Why a command is not taken; 0 where it is.
 pub const TAKEN: u8 = 0;
+
 pub const NO_MORE: u8 = 1;
+
 pub const CUT_OFF: u8 = 2;
+
 pub const UNKNOWN: u8 = 3;
+
 pub const WRONG_TABLE: u8 = 4;
+
 pub const LONG_ARENA: u8 = 5;
+
 pub const LONG_BUFFER: u8 = 6;
+
 pub const LARGE_NUMBER: u8 = 7;
+
 pub const LONG_TEXT: u8 = 8;
+
 pub const PAST_ARENA: u8 = 9;
+
 pub const PAST_FIELD: u8 = 10;
 
 // A command without its strings.
@@ -232,8 +242,5 @@ fn fill_text(buf: &mut [u8], len: usize) -> Told
             len: 0,
         };
     }
-    Told {
-        fault: TAKEN,
-        len,
-    }
+    Told { fault: TAKEN, len }
 }

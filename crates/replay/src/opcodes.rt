@@ -1,13 +1,13 @@
 // What each opcode's command looks like.
 
 // How many opcodes there are.
-const OPCODES: usize = 21;
+const OPCODES: usize = 58;
 
 // How many numbers a row has.
 const ROW: usize = 5;
 
 // For each opcode: whether it has a table (1) and an arena (2), whether an output buffer, how many more numbers, how many strings, and which bound the first number has.
-const SHAPES: [u8; 105] = [
+const SHAPES: [u8; 290] = [
     // fresh
     1,
     0,
@@ -134,6 +134,228 @@ const SHAPES: [u8; 105] = [
     1,
     0,
     3,
+    // line_on
+    1,
+    0,
+    2,
+    1,
+    0,
+    // read_report
+    0,
+    0,
+    1,
+    1,
+    0,
+    // read_instruction
+    0,
+    0,
+    1,
+    1,
+    0,
+    // read_prefix
+    0,
+    0,
+    3,
+    1,
+    0,
+    // line_static
+    0,
+    0,
+    1,
+    1,
+    0,
+    // int_read
+    0,
+    0,
+    2,
+    1,
+    0,
+    // int_size
+    0,
+    0,
+    2,
+    0,
+    0,
+    // int_ok
+    0,
+    0,
+    2,
+    0,
+    0,
+    // int_write
+    0,
+    1,
+    4,
+    0,
+    0,
+    // text_read
+    0,
+    0,
+    2,
+    1,
+    0,
+    // text_size
+    0,
+    0,
+    3,
+    0,
+    0,
+    // text_write
+    0,
+    1,
+    3,
+    1,
+    0,
+    // static_get
+    0,
+    0,
+    1,
+    0,
+    0,
+    // static_find
+    0,
+    0,
+    0,
+    2,
+    0,
+    // static_find_name
+    0,
+    0,
+    0,
+    1,
+    0,
+    // static_copy
+    0,
+    1,
+    3,
+    0,
+    0,
+    // vas_relative
+    0,
+    0,
+    3,
+    0,
+    0,
+    // vas_relative_base
+    0,
+    0,
+    4,
+    0,
+    0,
+    // vas_post_base
+    0,
+    0,
+    4,
+    0,
+    0,
+    // vas_index
+    0,
+    0,
+    3,
+    0,
+    0,
+    // vas_largest_ref
+    0,
+    0,
+    2,
+    0,
+    0,
+    // stream_read_integer
+    0,
+    0,
+    2,
+    1,
+    4,
+    // stream_read_name_ref
+    0,
+    0,
+    1,
+    1,
+    0,
+    // stream_read_literal
+    0,
+    0,
+    1,
+    1,
+    0,
+    // stream_write_integer
+    0,
+    1,
+    3,
+    0,
+    4,
+    // stream_write_name_ref
+    0,
+    1,
+    3,
+    1,
+    0,
+    // stream_write_literal
+    0,
+    1,
+    1,
+    2,
+    0,
+    // block_read_line
+    0,
+    0,
+    1,
+    1,
+    0,
+    // block_write_indexed
+    0,
+    1,
+    3,
+    0,
+    5,
+    // block_write_named
+    0,
+    1,
+    3,
+    1,
+    5,
+    // block_write_literal
+    0,
+    1,
+    1,
+    2,
+    0,
+    // encoder_kind
+    0,
+    0,
+    1,
+    0,
+    0,
+    // decoder_kind
+    0,
+    0,
+    1,
+    0,
+    0,
+    // line_kind
+    0,
+    0,
+    1,
+    0,
+    0,
+    // form_of
+    0,
+    0,
+    1,
+    0,
+    4,
+    // head_of
+    0,
+    0,
+    2,
+    0,
+    4,
+    // capacity_test
+    0,
+    0,
+    1,
+    0,
+    0,
 ];
 
 // What a command has, if its opcode is known.

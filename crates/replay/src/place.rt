@@ -3,6 +3,7 @@ use crate::answer;
 use crate::input::ARENA;
 use crate::input::Command;
 use crate::input::LONGEST;
+use crate::read;
 use crate::text;
 use crate::text::Line;
 use answers::Reply;
@@ -124,4 +125,9 @@ pub fn on_encoder_recv(p: Place, c: Command, s: &[u8]) -> Place {
     text::end(shown(line, out, c));
     let table = r.table;
     Place { table, arena }
+}
+
+pub fn line_on(p: Place, base: usize, s: &[u8], at: usize) -> Place {
+    text::end(read::line_on(p.table.ring, base, s, at));
+    p
 }

@@ -18,7 +18,10 @@ use tracking::Section;
 use tracking::Value;
 use tracking::Waiting;
 
-fn wide(x: u16) -> usize {
+// A u16 as a usize.
+pub fn wide(x: u16) -> usize
+    ensures { λ r. ⌜ r ≤ 65535 ⌝ }
+{
     x as usize
 }
 
@@ -191,7 +194,7 @@ fn entry(line: Line, r: Ring, arena: [u8; ARENA], gone: usize) -> Line {
     let name = wide(r.names[i]);
     let value = wide(r.values[i]);
     let line = stretch(line, arena, start, name);
-    stretch(line, arena, start % RING + name % RING, value)
+    stretch(line, arena, start + name, value)
 }
 
 // The live entries, oldest first, of a ring that keeps its rules.

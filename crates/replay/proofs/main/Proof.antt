@@ -1,7 +1,9 @@
+use native.Mathlib.Omega.{arith}
+use lib.ListN.{length, length-set}
 use borrow.Author.Needs.{needs}
 use Prim.Native.Nat.{_≤_, _-_}
 use mathlib.Core.Path.{_≡_}
-use lib.ListN.{length}
+
 use Rattle.replay.proofs.main.Statement.{statement}
 use Rattle.replay.proofs.main.Tie as tie
 use Rattle.replay.proofs.main.Reads as reads
@@ -41,6 +43,12 @@ mul-p c = search needs
 array-copy-out-p : tie.Need-array-copy-out-p Inv-loop μ-loop
 array-copy-out-p c = search needs
 
+mul-q : tie.Need-mul-q Inv-loop μ-loop
+mul-q c = search needs
+
+array-copy-out-q : tie.Need-array-copy-out-q Inv-loop μ-loop
+array-copy-out-q c = search needs
+
 run-requires : tie.Need-run-requires Inv-loop μ-loop
 run-requires c κs = search needs
 
@@ -66,7 +74,7 @@ loop-less : tie.Need-loop-less Inv-loop μ-loop
 loop-less c = search needs
 
 loop-again : tie.Need-loop-again Inv-loop μ-loop
-loop-again c = search needs
+loop-again c = (simp length-set (c .before .before .before .before .before .before .before .before .before .before .before .before .loop .inv .0), omega arith)
 
 returns-3 : tie.Need-returns-3 Inv-loop μ-loop
 returns-3 c = search needs
@@ -85,6 +93,8 @@ main-spec =
     returns
     mul-p
     array-copy-out-p
+    mul-q
+    array-copy-out-q
     run-requires
     add-stop-2
     stop-requires-2
