@@ -67,6 +67,8 @@ CALLS = [
     ("form_of", 0, 0, "kind", ""),
     ("head_of", 0, 0, "kind lowest", ""),
     ("capacity_test", 0, 0, "capacity", ""),
+    ("section_on", 2, 1, "records", "bytes"),
+    ("section_stateless", 0, 1, "records max", "bytes"),
 ]
 
 # Words that may stand for a number.
@@ -85,7 +87,7 @@ WORDS = {
 }
 OPCODES = {call[0]: number for number, call in enumerate(CALLS)}
 LONGEST = 65536
-ITEM = re.compile(r'\s*(?:([a-z_]+)=)?("(?:[^"\\]|\\.)*"|[^\s"]+)(?:\*(\d+))?(?=\s|$)')
+ITEM = re.compile(r'\s*(?:([a-z_]+)=)?("(?:[^"\\]|\\.)*"|[^\s"*]+)(?:\*(\d+))?(?=\s|$)')
 
 
 class Bad(Exception):
@@ -101,7 +103,7 @@ def number_of(name, text):
     except ValueError:
         raise Bad(f"{name}={text} is not a number")
     if not 0 <= n < 1 << 64:
-        raise Bad(f"{name}={text} has more than 64 bits")
+        raise Bad(f"{name}={text} is not below 2 to the 64")
     return n
 
 
@@ -161,7 +163,10 @@ def script_of(line):
             raise Bad(f"{word} has no {name}=")
     script = bytes([op, table])
     for name in numbers:
-        script += number_of(name, given[name][0]).to_bytes(8, "little")
+        text, times = given[name]
+        if times:
+            raise Bad(f"{name}={text} is a number, and not repeated")
+        script += number_of(name, text).to_bytes(8, "little")
     for name in strings:
         body = bytes_of(name, *given[name])
         if len(body) > LONGEST:
@@ -225,7 +230,7 @@ def main():
     if args:
         write_lines(sys.stdin.buffer.read(), sys.stdout)
     else:
-        write_script(sys.stdin.read().splitlines(), sys.stdout.buffer)
+        write_script(sys.stdin.buffer.read().decode().split("\n"), sys.stdout.buffer)
 
 
 try:

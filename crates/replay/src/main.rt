@@ -8,6 +8,7 @@ mod leaf;
 mod opcodes;
 mod place;
 mod read;
+mod section;
 mod show;
 mod text;
 mod write;
@@ -102,6 +103,13 @@ fn call(p: Place, q: Place, c: Command, name: &[u8], value: &[u8]) -> Place {
     if op < 22 {
         return on_record(p, q, c, name);
     }
+    if op == 58 {
+        return section::on_table(p, c, name);
+    }
+    if op == 59 {
+        section::stateless(c, name);
+        return p;
+    }
     alone(c, name, value);
     p
 }
@@ -166,8 +174,7 @@ fn run(p: Place, q: Place, c: Command) -> Ran {
     }
 }
 
-fn reason(fault: u8) -> Line {
-    let line = text::raw(text::empty(), b"bad input:");
+fn reason(line: Line, fault: u8) -> Line {
     match fault {
         input::CUT_OFF => text::word(line, b"the script ends inside a command"),
         input::UNKNOWN => text::word(line, b"no such opcode"),
@@ -182,12 +189,13 @@ fn reason(fault: u8) -> Line {
 }
 
 // Says why the script is not read on, at which command, counted from 1.
-fn stop(fault: u8, before: u64) {
+fn stop(fault: u8, at: u64) {
     if fault == input::NO_MORE {
         return;
     }
-    let line = text::word(reason(fault), b"in command");
-    text::end(text::digits(text::byte(line, b' '), before));
+    let line = text::raw(text::empty(), b"bad input in command ");
+    let line = text::byte(text::digits(line, at), b':');
+    text::end(reason(line, fault));
 }
 
 fn main() {

@@ -1,13 +1,13 @@
 // What each opcode's command looks like.
 
 // How many opcodes there are.
-const OPCODES: usize = 58;
+const OPCODES: usize = 60;
 
 // How many numbers a row has.
 const ROW: usize = 5;
 
 // For each opcode: whether it has a table (1) and an arena (2), whether an output buffer, how many more numbers, how many strings, and which bound the first number has.
-const SHAPES: [u8; 290] = [
+const SHAPES: [u8; 300] = [
     // fresh
     1,
     0,
@@ -356,6 +356,18 @@ const SHAPES: [u8; 290] = [
     1,
     0,
     0,
+    // section_on
+    2,
+    1,
+    1,
+    1,
+    6,
+    // section_stateless
+    0,
+    1,
+    2,
+    1,
+    6,
 ];
 
 // What a command has, if its opcode is known.

@@ -3,7 +3,6 @@ use lib.ListN.{length, length-set}
 use borrow.Author.Needs.{needs}
 use Prim.Native.Nat.{_≤_, _-_}
 use mathlib.Core.Path.{_≡_}
-
 use Rattle.replay.proofs.main.Statement.{statement}
 use Rattle.replay.proofs.main.Tie as tie
 use Rattle.replay.proofs.main.Reads as reads
