@@ -69,6 +69,11 @@ CALLS = [
     ("capacity_test", 0, 0, "capacity", ""),
     ("section_on", 2, 1, "records", "bytes"),
     ("section_stateless", 0, 1, "records max", "bytes"),
+    ("shape_text_after", 0, 0, "at width", "bytes"),
+    ("shape_texts", 0, 0, "at width", "bytes"),
+    ("shape_write_int_text", 0, 1, "at width flags index", "value"),
+    ("shape_write_texts", 0, 1, "at width flags", "name value"),
+    ("push_reply", 0, 0, "push capacity", ""),
 ]
 
 # Words that may stand for a number.
@@ -78,6 +83,7 @@ WORDS = {
         "line-post-base-name", "line-indexed-post-base", "line-literal", "line-name", "line-indexed",
     ],
     "reference": ["static", "relative", "post-base"],
+    "push": ["made", "too-large", "no-room", "full", "bad-call"],
     "field": [
         "inserted", "dropped", "size", "capacity", "tail", "head", "starts", "names", "values", "known", "most",
         "total", "distinct", "largest", "sections", "queued", "place.stream", "place.from", "place.used",

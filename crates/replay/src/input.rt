@@ -52,7 +52,7 @@ pub struct Command {
     pub c: u64,
     pub d: u64,
     // How many strings follow.
-    pub strings: u8,
+    pub strings: u16,
 }
 
 // A number that was read, where there was one.

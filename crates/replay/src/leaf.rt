@@ -6,6 +6,9 @@ use dynamic::CapacityTest;
 use prefix_int::IntRead;
 use prefix_int::IntSize;
 use prefix_string::TextRead;
+use ring::Push;
+use shapes::IntTextRead;
+use shapes::TextsRead;
 use static_table::StaticFound;
 use static_table::StaticGot;
 use vas::Located;
@@ -129,5 +132,55 @@ pub fn capacity(n: usize) -> Line {
     match r {
         CapacityTest::Within => answer::done(),
         CapacityTest::Refused(why) => answer::refused(why),
+    }
+}
+
+// What a push did, by number.
+fn push_of(n: u64) -> Push {
+    match n {
+        0 => Push::Made,
+        1 => Push::TooLarge,
+        2 => Push::NoRoom,
+        3 => Push::Full,
+        _ => Push::BadCall,
+    }
+}
+
+pub fn push_reply(push: u64, capacity: usize) -> Line {
+    answer::reply(dynamic::push_reply(capacity, push_of(push)))
+}
+
+pub fn text_after(s: &[u8], at: usize, bits: u64) -> Line {
+    let r = shapes::text_after(s, prefix_int::read(s, at, width(bits)));
+    match r {
+        IntTextRead::IntText {
+            flags: above,
+            index,
+            start,
+            len,
+            next,
+        } => {
+            let line = two(answer::done(), wide(above), index as usize);
+            text::number(two(line, start, len), next)
+        }
+        IntTextRead::Refused(why) => answer::refused(why),
+    }
+}
+
+pub fn texts(s: &[u8], at: usize, bits: u64) -> Line {
+    let r = shapes::texts(s, at, width(bits));
+    match r {
+        TextsRead::Texts {
+            flags: above,
+            name,
+            name_len,
+            value,
+            value_len,
+            next,
+        } => {
+            let line = two(answer::done(), wide(above), name);
+            two(two(line, name_len, value), value_len, next)
+        }
+        TextsRead::Refused(why) => answer::refused(why),
     }
 }

@@ -1,5 +1,6 @@
 // A script of calls on standard input, made on the library one after the other, with an answer line for each.
 mod answer;
+mod bytes;
 mod compare;
 mod edit;
 mod input;
@@ -40,9 +41,9 @@ fn on_record(p: Place, q: Place, c: Command, s: &[u8]) -> Place {
     match op {
         15 => show::show(p),
         16 => edit::set(p, c),
-        17 => edit::write_arena(p, c.a, s),
-        18 => edit::read_arena(p, c.a, c.b),
-        19 => edit::copy(q),
+        17 => bytes::write_arena(p, c.a, s),
+        18 => bytes::read_arena(p, c.a, c.b),
+        19 => bytes::copy(q),
         20 => compare::compare(p, q),
         _ => place::line_on(p, c.a as usize, s, c.b as usize),
     }
@@ -62,6 +63,8 @@ fn reads(c: Command, s: &[u8]) -> Line {
         42 => read::integer(s, c.b as usize, c.a),
         43 => read::name_ref(s, at),
         44 => read::literal(s, at),
+        60 => leaf::text_after(s, at, c.b),
+        61 => leaf::texts(s, at, c.b),
         _ => read::line(s, at),
     }
 }
@@ -80,6 +83,7 @@ fn asks(c: Command, name: &[u8], value: &[u8]) -> Line {
         55 => kinds::form(c.a),
         56 => kinds::head(c.a, c.b),
         57 => leaf::capacity(c.a as usize),
+        64 => leaf::push_reply(c.a, c.b as usize),
         _ => leaf::address(op, c.a as usize, c.b as usize, c.c as usize, c.d as usize),
     }
 }
@@ -88,8 +92,8 @@ fn asks(c: Command, name: &[u8], value: &[u8]) -> Line {
 fn alone(c: Command, name: &[u8], value: &[u8]) {
     let op = c.op;
     match op {
-        22..=26 | 30 | 42..=44 | 48 => text::end(reads(c, name)),
-        29 | 32 | 36 | 45..=47 | 49..=51 => write::write(c, name, value),
+        22..=26 | 30 | 42..=44 | 48 | 60..=61 => text::end(reads(c, name)),
+        29 | 32 | 36 | 45..=47 | 49..=51 | 62..=63 => write::write(c, name, value),
         _ => text::end(asks(c, name, value)),
     }
 }
@@ -125,13 +129,13 @@ fn late_fault(c: Command, len: usize) -> u8 {
             input::PAST_FIELD
         }
         17 => {
-            if edit::is_inside(c.a, len as u64) {
+            if bytes::is_inside(c.a, len as u64) {
                 return input::TAKEN;
             }
             input::PAST_ARENA
         }
         18 => {
-            if edit::is_inside(c.a, c.b) {
+            if bytes::is_inside(c.a, c.b) {
                 return input::TAKEN;
             }
             input::PAST_ARENA

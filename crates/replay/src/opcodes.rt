@@ -1,373 +1,140 @@
 // What each opcode's command looks like.
 
 // How many opcodes there are.
-const OPCODES: usize = 60;
+const OPCODES: usize = 65;
 
-// How many numbers a row has.
-const ROW: usize = 5;
-
-// For each opcode: whether it has a table (1) and an arena (2), whether an output buffer, how many more numbers, how many strings, and which bound the first number has.
-const SHAPES: [u8; 300] = [
+// For each opcode five digits: whether it has a table (1) and an arena (2), whether an output buffer, how many more numbers, how many strings, and which bound the first number has.
+const SHAPES: [u16; 65] = [
     // fresh
-    1,
-    0,
-    0,
-    0,
-    0,
+    10000,
     // set_capacity
-    1,
-    0,
-    1,
-    0,
-    0,
+    10100,
     // set_max_blocked
-    1,
-    0,
-    1,
-    0,
-    0,
+    10100,
     // put
-    2,
-    0,
-    0,
-    2,
-    0,
+    20020,
     // begin
-    1,
-    0,
-    1,
-    0,
-    0,
+    10100,
     // find
-    2,
-    0,
-    0,
-    2,
-    0,
+    20020,
     // insert
-    2,
-    0,
-    0,
-    2,
-    0,
+    20020,
     // commit
-    1,
-    0,
-    1,
-    0,
-    0,
+    10100,
     // abandon
-    1,
-    0,
-    0,
-    0,
-    0,
+    10000,
     // acknowledge
-    1,
-    0,
-    1,
-    0,
-    0,
+    10100,
     // cancel
-    1,
-    0,
-    1,
-    0,
-    0,
+    10100,
     // increment
-    1,
-    0,
-    1,
-    0,
-    0,
+    10100,
     // checked
-    1,
-    0,
-    0,
-    0,
-    0,
+    10000,
     // on_encoder_recv
-    2,
-    1,
-    0,
-    1,
-    0,
+    21010,
     // on_decoder_recv
-    1,
-    0,
-    0,
-    1,
-    0,
+    10010,
     // show
-    1,
-    0,
-    0,
-    0,
-    0,
+    10000,
     // set
-    1,
-    0,
-    3,
-    0,
-    1,
+    10301,
     // write_arena
-    1,
-    0,
-    1,
-    1,
-    2,
+    10112,
     // read_arena
-    1,
-    0,
-    2,
-    0,
-    2,
+    10202,
     // copy
-    1,
-    0,
-    1,
-    0,
-    3,
+    10103,
     // compare
-    1,
-    0,
-    1,
-    0,
-    3,
+    10103,
     // line_on
-    1,
-    0,
-    2,
-    1,
-    0,
+    10210,
     // read_report
-    0,
-    0,
-    1,
-    1,
-    0,
+    110,
     // read_instruction
-    0,
-    0,
-    1,
-    1,
-    0,
+    110,
     // read_prefix
-    0,
-    0,
-    3,
-    1,
-    0,
+    310,
     // line_static
-    0,
-    0,
-    1,
-    1,
-    0,
+    110,
     // int_read
-    0,
-    0,
-    2,
-    1,
-    0,
+    210,
     // int_size
-    0,
-    0,
-    2,
-    0,
-    0,
+    200,
     // int_ok
-    0,
-    0,
-    2,
-    0,
-    0,
+    200,
     // int_write
-    0,
-    1,
-    4,
-    0,
-    0,
+    1400,
     // text_read
-    0,
-    0,
-    2,
-    1,
-    0,
+    210,
     // text_size
-    0,
-    0,
-    3,
-    0,
-    0,
+    300,
     // text_write
-    0,
-    1,
-    3,
-    1,
-    0,
+    1310,
     // static_get
-    0,
-    0,
-    1,
-    0,
-    0,
+    100,
     // static_find
-    0,
-    0,
-    0,
-    2,
-    0,
+    20,
     // static_find_name
-    0,
-    0,
-    0,
-    1,
-    0,
+    10,
     // static_copy
-    0,
-    1,
-    3,
-    0,
-    0,
+    1300,
     // vas_relative
-    0,
-    0,
-    3,
-    0,
-    0,
+    300,
     // vas_relative_base
-    0,
-    0,
-    4,
-    0,
-    0,
+    400,
     // vas_post_base
-    0,
-    0,
-    4,
-    0,
-    0,
+    400,
     // vas_index
-    0,
-    0,
-    3,
-    0,
-    0,
+    300,
     // vas_largest_ref
-    0,
-    0,
-    2,
-    0,
-    0,
+    200,
     // stream_read_integer
-    0,
-    0,
-    2,
-    1,
-    4,
+    214,
     // stream_read_name_ref
-    0,
-    0,
-    1,
-    1,
-    0,
+    110,
     // stream_read_literal
-    0,
-    0,
-    1,
-    1,
-    0,
+    110,
     // stream_write_integer
-    0,
-    1,
-    3,
-    0,
-    4,
+    1304,
     // stream_write_name_ref
-    0,
-    1,
-    3,
-    1,
-    0,
+    1310,
     // stream_write_literal
-    0,
-    1,
-    1,
-    2,
-    0,
+    1120,
     // block_read_line
-    0,
-    0,
-    1,
-    1,
-    0,
+    110,
     // block_write_indexed
-    0,
-    1,
-    3,
-    0,
-    5,
+    1305,
     // block_write_named
-    0,
-    1,
-    3,
-    1,
-    5,
+    1315,
     // block_write_literal
-    0,
-    1,
-    1,
-    2,
-    0,
+    1120,
     // encoder_kind
-    0,
-    0,
-    1,
-    0,
-    0,
+    100,
     // decoder_kind
-    0,
-    0,
-    1,
-    0,
-    0,
+    100,
     // line_kind
-    0,
-    0,
-    1,
-    0,
-    0,
+    100,
     // form_of
-    0,
-    0,
-    1,
-    0,
-    4,
+    104,
     // head_of
-    0,
-    0,
-    2,
-    0,
-    4,
+    204,
     // capacity_test
-    0,
-    0,
-    1,
-    0,
-    0,
+    100,
     // section_on
-    2,
-    1,
-    1,
-    1,
-    6,
+    21116,
     // section_stateless
-    0,
-    1,
-    2,
-    1,
-    6,
+    1216,
+    // shape_text_after
+    210,
+    // shape_texts
+    210,
+    // shape_write_int_text
+    1410,
+    // shape_write_texts
+    1320,
+    // push_reply
+    207,
 ];
 
 // What a command has, if its opcode is known.
@@ -376,9 +143,9 @@ pub struct Shape {
     pub table: bool,
     pub arena: bool,
     pub out: bool,
-    pub numbers: u8,
-    pub strings: u8,
-    pub bound: u8,
+    pub numbers: u16,
+    pub strings: u16,
+    pub bound: u16,
 }
 
 fn wide(x: u8) -> usize {
@@ -387,8 +154,8 @@ fn wide(x: u8) -> usize {
 
 // The shape of an opcode's command.
 pub fn shape_of(op: u8) -> Shape {
-    let row = wide(op);
-    if OPCODES <= row {
+    let at = wide(op);
+    if OPCODES <= at {
         return Shape {
             known: false,
             table: false,
@@ -399,20 +166,20 @@ pub fn shape_of(op: u8) -> Shape {
             bound: 0,
         };
     }
-    let at = row * ROW;
+    let row = SHAPES[at];
     Shape {
         known: true,
-        table: SHAPES[at] != 0,
-        arena: SHAPES[at] == 2,
-        out: SHAPES[at + 1] == 1,
-        numbers: SHAPES[at + 2],
-        strings: SHAPES[at + 3],
-        bound: SHAPES[at + 4],
+        table: row / 10000 != 0,
+        arena: row / 10000 == 2,
+        out: row / 1000 % 10 == 1,
+        numbers: row / 100 % 10,
+        strings: row / 10 % 10,
+        bound: row % 10,
     }
 }
 
-// The largest number under a bound: a field, a place in the arena, a table, a kind, a reference's kind, a count of records.
-pub fn most(bound: u8) -> u64 {
+// The largest number under a bound: a field, a place in the arena, a table, a kind, a reference's kind, a count of records, what a push did.
+pub fn most(bound: u16) -> u64 {
     match bound {
         1 => 27,
         2 => 16640,
@@ -420,6 +187,7 @@ pub fn most(bound: u8) -> u64 {
         4 => 11,
         5 => 2,
         6 => 1024,
+        7 => 4,
         _ => 18446744073709551615,
     }
 }

@@ -116,7 +116,7 @@ pub fn on_encoder_recv(p: Place, c: Command, s: &[u8]) -> Place {
     let t = p.table;
     let mut arena = p.arena;
     let lent = text::within(c.lent, &arena);
-    let mut out = [c.fill; LONGEST];
+    let mut out = text::filled(c.fill);
     let room = text::within(c.room, &out);
     let r = encoder_stream::on_encoder_recv(t, &mut arena[..lent], s, &mut out[..room]);
     let reply = r.reply;

@@ -1,8 +1,9 @@
 // Sections, read on a table or with none, into records and a buffer.
+ghost use mathlib.Core.Path.{_≡_};
 ghost use Prim.Native.Nat.{_≤_};
+ghost use lib.ListN.{length};
 use crate::answer;
 use crate::input::Command;
-use crate::input::LONGEST;
 use crate::place;
 use crate::place::Place;
 use crate::text;
@@ -15,6 +16,13 @@ const RECORDS: usize = 1024;
 
 fn wide(x: u8) -> usize {
     x as usize
+}
+
+// Records that were never written.
+fn blank(fill: usize) -> [[usize; 3]; RECORDS]
+    ensures { λ r. ⌜ 1024 ≡ length r ⌝ }
+{
+    [[fill; 3]; RECORDS]
 }
 
 // Whether a record is one that was never written.
@@ -81,8 +89,8 @@ pub fn on_table(p: Place, c: Command, s: &[u8]) -> Place {
     let arena = p.arena;
     let lent = text::within(c.lent, &arena);
     let fill = wide(c.fill);
-    let mut records = [[fill; 3]; RECORDS];
-    let mut out = [c.fill; LONGEST];
+    let mut records = blank(fill);
+    let mut out = text::filled(c.fill);
     let room = text::within(c.room, &out);
     let d = decoder::read_on(
         s,
@@ -102,8 +110,8 @@ pub fn stateless(c: Command, s: &[u8]) {
         return;
     }
     let fill = wide(c.fill);
-    let mut records = [[fill; 3]; RECORDS];
-    let mut out = [c.fill; LONGEST];
+    let mut records = blank(fill);
+    let mut out = text::filled(c.fill);
     let room = text::within(c.room, &out);
     let max = MaxSize {
         bytes: c.b as usize,

@@ -1,4 +1,6 @@
 // An answer's text on its way to standard output: words, numbers and bytes, each with a space before it.
+ghost use mathlib.Core.Path.{_≡_};
+ghost use lib.ListN.{length};
 ghost use Rattle.io.specs.Counts.{Counts};
 use libc::STDOUT_FILENO;
 
@@ -28,6 +30,13 @@ pub fn within(n: usize, s: &[u8]) -> usize
         return most;
     }
     n
+}
+
+// A buffer filled with a byte.
+pub fn filled(fill: u8) -> [u8; 65536]
+    ensures { λ r. ⌜ 65536 ≡ length r ⌝ }
+{
+    [fill; 65536]
 }
 
 // Writes the first bytes of an array.

@@ -1,7 +1,6 @@
 // The writers, each into a buffer that is shown whole.
 use crate::answer;
 use crate::input::Command;
-use crate::input::LONGEST;
 use crate::kinds;
 use crate::place;
 use crate::text;
@@ -46,18 +45,29 @@ fn line(buf: &mut [u8], c: Command, name: &[u8], value: &[u8]) -> Written {
     }
 }
 
+// The writers of shapes.
+fn shape(buf: &mut [u8], c: Command, name: &[u8], value: &[u8]) -> Written {
+    let op = c.op;
+    let at = c.a as usize;
+    match op {
+        62 => shapes::write_int_text(buf, at, width(c.b), flags(c.c), c.d, name),
+        _ => shapes::write_texts(buf, at, width(c.b), flags(c.c), name, value),
+    }
+}
+
 fn any(buf: &mut [u8], c: Command, name: &[u8], value: &[u8]) -> Written {
     let op = c.op;
     match op {
         0..=36 => leaf(buf, c, name),
         37..=47 => instruction(buf, c, name, value),
-        48..=255 => line(buf, c, name, value),
+        48..=59 => line(buf, c, name, value),
+        60..=255 => shape(buf, c, name, value),
     }
 }
 
 // Makes a writer's call.
 pub fn write(c: Command, name: &[u8], value: &[u8]) {
-    let mut out = [c.fill; LONGEST];
+    let mut out = text::filled(c.fill);
     let room = text::within(c.room, &out);
     let w = any(&mut out[..room], c, name, value);
     text::end(place::shown(answer::written(w), out, c));

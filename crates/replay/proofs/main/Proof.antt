@@ -1,3 +1,4 @@
+-- `replay::main`: the tables stay four, and the commands that are left fall. Assumes nothing.
 use native.Mathlib.Omega.{arith}
 use lib.ListN.{length, length-set}
 use borrow.Author.Needs.{needs}
@@ -5,12 +6,6 @@ use Prim.Native.Nat.{_≤_, _-_}
 use mathlib.Core.Path.{_≡_}
 use Rattle.replay.proofs.main.Statement.{statement}
 use Rattle.replay.proofs.main.Tie as tie
-use Rattle.replay.proofs.main.Reads as reads
-use Rattle.replay.proofs.main.Lts as lts
-use Rattle.replay.proofs.input.next.Reads as next-reads
-use Rattle.replay.proofs.place.fresh.Reads as fresh-reads
-use Rattle.replay.proofs.run.Reads as run-reads
-use Rattle.replay.proofs.stop.Reads as stop-reads
 
 abbrev Inv-loop : tie.InvT-loop
 Inv-loop places₀ made₀ places made = (length places ≡ 4) × (made ≤ 9223372036854775807)

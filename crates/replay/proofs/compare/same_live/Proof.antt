@@ -1,10 +1,8 @@
+-- `replay::compare::same_live`: both slots stay within the ring. Assumes nothing.
 use borrow.Author.Needs.{needs}
 use Prim.Native.Nat.{_<_}
 use Rattle.replay.proofs.compare.same_live.Statement.{statement}
 use Rattle.replay.proofs.compare.same_live.Tie as tie
-use Rattle.replay.proofs.compare.same_live.Reads as reads
-use Rattle.replay.proofs.compare.same_live.Lts as lts
-use Rattle.replay.proofs.compare.same_entry.Reads as same-entry-reads
 
 abbrev Inv-loop : tie.InvT-loop
 Inv-loop a x b y count i₀ j₀ left₀ i j left = (i < 512) × (j < 512)

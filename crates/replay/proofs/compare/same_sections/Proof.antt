@@ -1,10 +1,8 @@
+-- `replay::compare::same_sections`: the index stays within the places. Assumes nothing.
 use borrow.Author.Needs.{needs}
 use Prim.Native.Nat.{_≤_, _-_}
 use Rattle.replay.proofs.compare.same_sections.Statement.{statement}
 use Rattle.replay.proofs.compare.same_sections.Tie as tie
-use Rattle.replay.proofs.compare.same_sections.Reads as reads
-use Rattle.replay.proofs.compare.same_sections.Lts as lts
-use Rattle.replay.proofs.compare.same_section.Reads as same-section-reads
 
 abbrev Inv-loop : tie.InvT-loop
 Inv-loop a b i₀ i = (i ≤ 32)

@@ -1,9 +1,8 @@
+-- `replay::compare::same_slots`: the index stays within the slots. Assumes nothing.
 use borrow.Author.Needs.{needs}
 use Prim.Native.Nat.{_≤_, _-_}
 use Rattle.replay.proofs.compare.same_slots.Statement.{statement}
 use Rattle.replay.proofs.compare.same_slots.Tie as tie
-use Rattle.replay.proofs.compare.same_slots.Reads as reads
-use Rattle.replay.proofs.compare.same_slots.Lts as lts
 
 abbrev Inv-loop : tie.InvT-loop
 Inv-loop a b i₀ i = (i ≤ 512)

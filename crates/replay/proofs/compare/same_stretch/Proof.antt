@@ -1,9 +1,8 @@
+-- `replay::compare::same_stretch`: both positions stay within the ring. Assumes nothing.
 use borrow.Author.Needs.{needs}
 use Prim.Native.Nat.{_<_}
 use Rattle.replay.proofs.compare.same_stretch.Statement.{statement}
 use Rattle.replay.proofs.compare.same_stretch.Tie as tie
-use Rattle.replay.proofs.compare.same_stretch.Reads as reads
-use Rattle.replay.proofs.compare.same_stretch.Lts as lts
 
 abbrev Inv-loop : tie.InvT-loop
 Inv-loop p q len a b i₀ j₀ left₀ i j left = (i < 16384) × (j < 16384)

@@ -1,10 +1,8 @@
+-- `replay::compare::same_uses`: the index stays within the uses. Assumes nothing.
 use borrow.Author.Needs.{needs}
 use Prim.Native.Nat.{_≤_, _-_}
 use Rattle.replay.proofs.compare.same_uses.Statement.{statement}
 use Rattle.replay.proofs.compare.same_uses.Tie as tie
-use Rattle.replay.proofs.compare.same_uses.Reads as reads
-use Rattle.replay.proofs.compare.same_uses.Lts as lts
-use Rattle.replay.proofs.compare.same_use.Reads as same-use-reads
 
 abbrev Inv-loop : tie.InvT-loop
 Inv-loop a b i₀ i = (i ≤ 32)

@@ -1,10 +1,8 @@
+-- `replay::compare::same_values`: the index stays within the values. Assumes nothing.
 use borrow.Author.Needs.{needs}
 use Prim.Native.Nat.{_≤_, _-_}
 use Rattle.replay.proofs.compare.same_values.Statement.{statement}
 use Rattle.replay.proofs.compare.same_values.Tie as tie
-use Rattle.replay.proofs.compare.same_values.Reads as reads
-use Rattle.replay.proofs.compare.same_values.Lts as lts
-use Rattle.replay.proofs.compare.same_value.Reads as same-value-reads
 
 abbrev Inv-loop : tie.InvT-loop
 Inv-loop a b i₀ i = (i ≤ 64)

@@ -1,13 +1,8 @@
+-- `replay::section::all`: the index stays within the records. Assumes nothing.
 use borrow.Author.Needs.{needs}
 use Prim.Native.Nat.{_≤_, _-_}
 use Rattle.replay.proofs.section.all.Statement.{statement}
 use Rattle.replay.proofs.section.all.Tie as tie
-use Rattle.replay.proofs.section.all.Reads as reads
-use Rattle.replay.proofs.section.all.Lts as lts
-use Rattle.replay.proofs.section.kept.Reads as kept-reads
-use Rattle.replay.proofs.section.record.Reads as record-reads
-use Rattle.replay.proofs.text.more.Reads as more-reads
-use Rattle.replay.proofs.text.word.Reads as word-reads
 
 abbrev Inv-loop : tie.InvT-loop
 Inv-loop count fill records n next₀ i₀ next i = (i ≤ n) × (n ≤ 1024)

@@ -1,10 +1,8 @@
+-- `replay::section::kept`: the count stays within the records. Assumes nothing.
 use borrow.Author.Needs.{needs}
 use Prim.Native.Nat.{_≤_}
 use Rattle.replay.proofs.section.kept.Statement.{statement}
 use Rattle.replay.proofs.section.kept.Tie as tie
-use Rattle.replay.proofs.section.kept.Reads as reads
-use Rattle.replay.proofs.section.kept.Lts as lts
-use Rattle.replay.proofs.section.is_filled.Reads as is-filled-reads
 
 abbrev Inv-loop : tie.InvT-loop
 Inv-loop count fill records n₀ n = (n ≤ count) × (count ≤ 1024)

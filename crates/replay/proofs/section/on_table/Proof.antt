@@ -1,17 +1,9 @@
+-- `replay::section::on_table`: the lent records are as many as asked for. Assumes nothing.
 use mathlib.Core.Path.{sym}
 use lib.Seq.{length-take-le}
 use borrow.Author.Needs.{needs}
 use Rattle.replay.proofs.section.on_table.Statement.{statement}
 use Rattle.replay.proofs.section.on_table.Tie as tie
-use Rattle.replay.proofs.section.on_table.Reads as reads
-use Rattle.replay.proofs.section.on_table.Lts as lts
-use Rattle.decoder.proofs.read_on.Reads as read-on-reads
-use Rattle.replay.proofs.place.shown.Reads as shown-reads
-use Rattle.replay.proofs.section.all.Reads as all-reads
-use Rattle.replay.proofs.section.decoded.Reads as decoded-reads
-use Rattle.replay.proofs.section.wide.Reads as wide-reads
-use Rattle.replay.proofs.text.end.Reads as end-reads
-use Rattle.replay.proofs.text.within.Reads as within-reads
 
 returns : tie.Need-returns
 returns c = search needs
@@ -24,6 +16,12 @@ within-requires c κs = search needs
 
 wide-requires : tie.Need-wide-requires
 wide-requires c κs = search needs
+
+blank-requires : tie.Need-blank-requires
+blank-requires c κs = search needs
+
+filled-requires : tie.Need-filled-requires
+filled-requires c κs = search needs
 
 slice-aggregate-within-2 : tie.Need-slice-aggregate-within-2
 slice-aggregate-within-2 c = search needs
@@ -41,7 +39,7 @@ array-borrow-prefix-records : tie.Need-array-borrow-prefix-records
 array-borrow-prefix-records c = search needs
 
 slice-aggregate-read-on-2 : tie.Need-slice-aggregate-read-on-2
-slice-aggregate-read-on-2 c = sym (length-take-le (c .before .before .before .before .before .before .before .before .before .before .args .c .a) _ (search needs))
+slice-aggregate-read-on-2 c = sym (length-take-le _ _ (search needs))
 
 array-borrow-prefix-out : tie.Need-array-borrow-prefix-out
 array-borrow-prefix-out c = search needs
@@ -75,6 +73,8 @@ on-table-spec =
     slice-aggregate-within
     within-requires
     wide-requires
+    blank-requires
+    filled-requires
     slice-aggregate-within-2
     within-requires-2
     array-share-prefix-arena

@@ -1,23 +1,21 @@
+-- `replay::section::stateless`: the lent records are as many as asked for. Assumes nothing.
 use mathlib.Core.Path.{sym}
 use lib.Seq.{length-take-le}
 use borrow.Author.Needs.{needs}
 use Rattle.replay.proofs.section.stateless.Statement.{statement}
 use Rattle.replay.proofs.section.stateless.Tie as tie
-use Rattle.replay.proofs.section.stateless.Reads as reads
-use Rattle.replay.proofs.section.stateless.Lts as lts
-use Rattle.decoder.proofs.read_stateless.Reads as read-stateless-reads
-use Rattle.replay.proofs.place.shown.Reads as shown-reads
-use Rattle.replay.proofs.section.all.Reads as all-reads
-use Rattle.replay.proofs.section.decoded.Reads as decoded-reads
-use Rattle.replay.proofs.section.wide.Reads as wide-reads
-use Rattle.replay.proofs.text.end.Reads as end-reads
-use Rattle.replay.proofs.text.within.Reads as within-reads
 
 returns : tie.Need-returns
 returns c = search needs
 
 wide-requires : tie.Need-wide-requires
 wide-requires c κs = search needs
+
+blank-requires : tie.Need-blank-requires
+blank-requires c κs = search needs
+
+filled-requires : tie.Need-filled-requires
+filled-requires c κs = search needs
 
 slice-aggregate-within : tie.Need-slice-aggregate-within
 slice-aggregate-within c = search needs
@@ -29,7 +27,7 @@ array-borrow-prefix-records : tie.Need-array-borrow-prefix-records
 array-borrow-prefix-records c = search needs
 
 slice-aggregate-read-stateless : tie.Need-slice-aggregate-read-stateless
-slice-aggregate-read-stateless c = sym (length-take-le (c .before .before .before .before .before .before .args .c .a) _ (search needs))
+slice-aggregate-read-stateless c = sym (length-take-le _ _ (search needs))
 
 array-borrow-prefix-out : tie.Need-array-borrow-prefix-out
 array-borrow-prefix-out c = search needs
@@ -61,6 +59,8 @@ stateless-spec =
     (tie.spec
     returns
     wide-requires
+    blank-requires
+    filled-requires
     slice-aggregate-within
     within-requires
     array-borrow-prefix-records

@@ -1,9 +1,8 @@
+-- `replay::show::kept_slots`: the count stays within the slots. Assumes nothing.
 use borrow.Author.Needs.{needs}
 use Prim.Native.Nat.{_≤_}
 use Rattle.replay.proofs.show.kept_slots.Statement.{statement}
 use Rattle.replay.proofs.show.kept_slots.Tie as tie
-use Rattle.replay.proofs.show.kept_slots.Reads as reads
-use Rattle.replay.proofs.show.kept_slots.Lts as lts
 
 abbrev Inv-loop : tie.InvT-loop
 Inv-loop slots n₀ n = (n ≤ 512)

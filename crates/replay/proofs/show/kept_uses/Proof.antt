@@ -1,10 +1,8 @@
+-- `replay::show::kept_uses`: the count stays within the uses. Assumes nothing.
 use borrow.Author.Needs.{needs}
 use Prim.Native.Nat.{_≤_}
 use Rattle.replay.proofs.show.kept_uses.Statement.{statement}
 use Rattle.replay.proofs.show.kept_uses.Tie as tie
-use Rattle.replay.proofs.show.kept_uses.Reads as reads
-use Rattle.replay.proofs.show.kept_uses.Lts as lts
-use Rattle.replay.proofs.show.is_no_use.Reads as is-no-use-reads
 
 abbrev Inv-loop : tie.InvT-loop
 Inv-loop uses n₀ n = (n ≤ 32)

@@ -1,10 +1,8 @@
+-- `replay::show::kept_values`: the count stays within the values. Assumes nothing.
 use borrow.Author.Needs.{needs}
 use Prim.Native.Nat.{_≤_}
 use Rattle.replay.proofs.show.kept_values.Statement.{statement}
 use Rattle.replay.proofs.show.kept_values.Tie as tie
-use Rattle.replay.proofs.show.kept_values.Reads as reads
-use Rattle.replay.proofs.show.kept_values.Lts as lts
-use Rattle.replay.proofs.show.is_no_value.Reads as is-no-value-reads
 
 abbrev Inv-loop : tie.InvT-loop
 Inv-loop values n₀ n = (n ≤ 64)

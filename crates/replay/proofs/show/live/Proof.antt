@@ -1,11 +1,8 @@
+-- `replay::show::live`: the entries that are left fall. Assumes nothing.
 use borrow.Author.Needs.{needs}
 use Prim.Native.Nat.{_≤_, _-_}
 use Rattle.replay.proofs.show.live.Statement.{statement}
 use Rattle.replay.proofs.show.live.Tie as tie
-use Rattle.replay.proofs.show.live.Reads as reads
-use Rattle.replay.proofs.show.live.Lts as lts
-use Rattle.replay.proofs.show.entry.Reads as entry-reads
-use Rattle.replay.proofs.text.word.Reads as word-reads
 
 abbrev Inv-loop : tie.InvT-loop
 Inv-loop r arena inserted next₀ gone₀ next gone = (gone₀ ≤ gone)

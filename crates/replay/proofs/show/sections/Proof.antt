@@ -1,12 +1,10 @@
+-- `replay::show::sections`: the index stays within the places. Assumes nothing.
 use borrow.Author.Needs.{needs}
 use Prim.Native.Nat.{_≤_, _-_}
 use mathlib.Core.Path.{_≡_}
 use lib.ListN.{length}
 use Rattle.replay.proofs.show.sections.Statement.{statement}
 use Rattle.replay.proofs.show.sections.Tie as tie
-use Rattle.replay.proofs.show.sections.Reads as reads
-use Rattle.replay.proofs.show.sections.Lts as lts
-use Rattle.replay.proofs.show.section.Reads as section-reads
 
 abbrev Inv-loop : tie.InvT-loop
 Inv-loop places next₀ i₀ t7 next i = (length t7 ≡ 5) × (i ≤ 32)

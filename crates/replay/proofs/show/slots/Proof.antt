@@ -1,14 +1,8 @@
+-- `replay::show::slots`: the index stays within the slots. Assumes nothing.
 use borrow.Author.Needs.{needs}
 use Prim.Native.Nat.{_≤_, _-_}
 use Rattle.replay.proofs.show.slots.Statement.{statement}
 use Rattle.replay.proofs.show.slots.Tie as tie
-use Rattle.replay.proofs.show.slots.Reads as reads
-use Rattle.replay.proofs.show.slots.Lts as lts
-use Rattle.replay.proofs.show.kept_slots.Reads as kept-slots-reads
-use Rattle.replay.proofs.show.wide.Reads as wide-reads
-use Rattle.replay.proofs.text.more.Reads as more-reads
-use Rattle.replay.proofs.text.number.Reads as number-reads
-use Rattle.replay.proofs.text.word.Reads as word-reads
 
 abbrev Inv-loop : tie.InvT-loop
 Inv-loop word slots n next₀ i₀ next i = (i ≤ n) × (n ≤ 512)

@@ -1,11 +1,8 @@
+-- `replay::show::stretch`: the position stays within the ring. Assumes nothing.
 use borrow.Author.Needs.{needs}
 use Prim.Native.Nat.{_<_}
 use Rattle.replay.proofs.show.stretch.Statement.{statement}
 use Rattle.replay.proofs.show.stretch.Tie as tie
-use Rattle.replay.proofs.show.stretch.Reads as reads
-use Rattle.replay.proofs.show.stretch.Lts as lts
-use Rattle.replay.proofs.text.hex_byte.Reads as hex-byte-reads
-use Rattle.replay.proofs.text.raw.Reads as raw-reads
 
 abbrev Inv-loop : tie.InvT-loop
 Inv-loop start len arena next₀ p₀ left₀ next p left = (p < 16384)

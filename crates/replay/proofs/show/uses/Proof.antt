@@ -1,13 +1,8 @@
+-- `replay::show::uses`: the index stays within the uses. Assumes nothing.
 use borrow.Author.Needs.{needs}
 use Prim.Native.Nat.{_≤_, _-_}
 use Rattle.replay.proofs.show.uses.Statement.{statement}
 use Rattle.replay.proofs.show.uses.Tie as tie
-use Rattle.replay.proofs.show.uses.Reads as reads
-use Rattle.replay.proofs.show.uses.Lts as lts
-use Rattle.replay.proofs.show.kept_uses.Reads as kept-uses-reads
-use Rattle.replay.proofs.show.pair.Reads as pair-reads
-use Rattle.replay.proofs.show.wide.Reads as wide-reads
-use Rattle.replay.proofs.text.more.Reads as more-reads
 
 abbrev Inv-loop : tie.InvT-loop
 Inv-loop uses n next₀ i₀ next i = (i ≤ n) × (n ≤ 32)

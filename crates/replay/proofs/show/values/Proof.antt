@@ -1,13 +1,8 @@
+-- `replay::show::values`: the index stays within the values. Assumes nothing.
 use borrow.Author.Needs.{needs}
 use Prim.Native.Nat.{_≤_, _-_}
 use Rattle.replay.proofs.show.values.Statement.{statement}
 use Rattle.replay.proofs.show.values.Tie as tie
-use Rattle.replay.proofs.show.values.Reads as reads
-use Rattle.replay.proofs.show.values.Lts as lts
-use Rattle.replay.proofs.show.kept_values.Reads as kept-values-reads
-use Rattle.replay.proofs.show.pair.Reads as pair-reads
-use Rattle.replay.proofs.text.more.Reads as more-reads
-use Rattle.replay.proofs.text.word.Reads as word-reads
 
 abbrev Inv-loop : tie.InvT-loop
 Inv-loop values n next₀ i₀ next i = (i ≤ n) × (n ≤ 64)

@@ -1,11 +1,9 @@
+-- `replay::text::hex_digits`: the position stays within the bytes. Assumes nothing.
 use borrow.Author.Needs.{needs}
 use Prim.Native.Nat.{_≤_, _-_}
 use lib.ListN.{length}
 use Rattle.replay.proofs.text.hex_digits.Statement.{statement}
 use Rattle.replay.proofs.text.hex_digits.Tie as tie
-use Rattle.replay.proofs.text.hex_digits.Reads as reads
-use Rattle.replay.proofs.text.hex_digits.Lts as lts
-use Rattle.replay.proofs.text.hex_byte.Reads as hex-byte-reads
 
 abbrev Inv-loop : tie.InvT-loop
 Inv-loop s next₀ i₀ next i = (i ≤ length s)

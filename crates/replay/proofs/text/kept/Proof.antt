@@ -1,3 +1,4 @@
+-- `replay::text::kept`: the count stays within the bytes. Assumes nothing.
 use mathlib.Core.Path.{sym}
 use denote.Ref.{now}
 use lib.Seq.{length-take-le}
@@ -6,8 +7,6 @@ use Prim.Native.Nat.{_≤_}
 use lib.ListN.{length}
 use Rattle.replay.proofs.text.kept.Statement.{statement}
 use Rattle.replay.proofs.text.kept.Tie as tie
-use Rattle.replay.proofs.text.kept.Reads as reads
-use Rattle.replay.proofs.text.kept.Lts as lts
 
 abbrev Inv-loop : tie.InvT-loop
 Inv-loop s fill n₀ n = (n ≤ length s)

@@ -1,11 +1,9 @@
+-- `replay::text::raw`: the position stays within the text. Assumes nothing.
 use borrow.Author.Needs.{needs}
 use Prim.Native.Nat.{_≤_, _-_}
 use lib.ListN.{length}
 use Rattle.replay.proofs.text.raw.Statement.{statement}
 use Rattle.replay.proofs.text.raw.Tie as tie
-use Rattle.replay.proofs.text.raw.Reads as reads
-use Rattle.replay.proofs.text.raw.Lts as lts
-use Rattle.replay.proofs.text.byte.Reads as byte-reads
 
 abbrev Inv-loop : tie.InvT-loop
 Inv-loop text next₀ i₀ next i = (i ≤ length text)

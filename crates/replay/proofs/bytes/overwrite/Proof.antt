@@ -1,11 +1,10 @@
+-- `replay::bytes::overwrite`: the arena keeps its length. Assumes nothing.
 use borrow.Author.Needs.{needs}
 use Prim.Native.Nat.{_≤_, _-_}
 use mathlib.Core.Path.{_≡_}
 use lib.ListN.{length}
-use Rattle.replay.proofs.edit.overwrite.Statement.{statement}
-use Rattle.replay.proofs.edit.overwrite.Tie as tie
-use Rattle.replay.proofs.edit.overwrite.Reads as reads
-use Rattle.replay.proofs.edit.overwrite.Lts as lts
+use Rattle.replay.proofs.bytes.overwrite.Statement.{statement}
+use Rattle.replay.proofs.bytes.overwrite.Tie as tie
 
 abbrev Inv-loop : tie.InvT-loop
 Inv-loop at s arena₀ k₀ i₀ arena k i = (i ≤ length s) × (length arena ≡ 16640)

@@ -1,12 +1,8 @@
+-- `replay::bytes::bytes_of`: the bytes that are left fall. Assumes nothing.
 use borrow.Author.Needs.{needs}
 use Prim.Native.Nat.{_≤_}
-use Rattle.replay.proofs.edit.bytes_of.Statement.{statement}
-use Rattle.replay.proofs.edit.bytes_of.Tie as tie
-use Rattle.replay.proofs.edit.bytes_of.Reads as reads
-use Rattle.replay.proofs.edit.bytes_of.Lts as lts
-use Rattle.replay.proofs.answer.done.Reads as done-reads
-use Rattle.replay.proofs.text.hex_byte.Reads as hex-byte-reads
-use Rattle.replay.proofs.text.raw.Reads as raw-reads
+use Rattle.replay.proofs.bytes.bytes_of.Statement.{statement}
+use Rattle.replay.proofs.bytes.bytes_of.Tie as tie
 
 abbrev Inv-loop : tie.InvT-loop
 Inv-loop at len arena line₀ k₀ left₀ line k left = (left ≤ left₀)
