@@ -1,5 +1,5 @@
 -- One step of a section, by how it ends. Assumes nothing.
-use mathlib.Core.Path.{_≡_, refl, sym, ap, _∙_}
+use mathlib.Core.Path.{_≡_, refl, sym, ap, subst, _∙_}
 use mathlib.Core.Bool.{Bool, true, false, _&&_, cond}
 use mathlib.Core.List.{List}
 use Prim.Native.Nat.{ℕ, _≤_, _<_}
@@ -46,25 +46,41 @@ long-there t a s c d h = go (c .started) (sound t) (longEnough a) refl h
     go false true false e h = no-cursor BadCall d h
     go false false false e h = no-cursor BadCall d h
 
+-- a cursor past the prefix is the one that was, or one made of it
+pub past-prefix : (k : Reader) (s : List ℕ) (c d : Cursor) → cursorAt k s c ≡ done d → (P : Cursor → Type 0) → (c .started ≡ true → P c)
+    → (c .started ≡ false → (p : Prefix) → startOf k s ≡ done p → P (begun c p)) → P d
+unfolding cursorAt
+past-prefix k s c d h P same new = go (c .started) refl h
+  where
+    long : (b : Bool) → cond b (done c) (refused BadCall) ≡ done d → P c → P d
+    long true h g = let e : c ≡ d = cc in subst P e g
+    long false h g = no-cursor BadCall d h
+
+    still : (k : Reader) → whenLong k c ≡ done d → P c → P d
+    still (onTable t a) h g = long (leb ring (length a)) h g
+    still (stateless most) h g = let e : c ≡ d = cc in subst P e g
+
+    go : (b : Bool) → c .started ≡ b → cond b (whenLong k c) (andThen (startOf k s) (λ p. done (begun c p))) ≡ done d → P d
+    go true e h = still k h (same e)
+    go false e h =
+        let p = then-done (startOf k s) (λ q. done (begun c q)) d h in
+        let q : begun c (p .0) ≡ d = let z = p .2 in cc in
+        subst P q (new e (p .0) (p .1))
+
 -- what was stored so far stays
 pub same-used : (k : Reader) (s : List ℕ) (c d : Cursor) → cursorAt k s c ≡ done d → d .used ≡ c .used
-unfolding cursorAt
-same-used k s c d h = go (c .started) h
-  where
-    long : (b : Bool) → cond b (done c) (refused BadCall) ≡ done d → d .used ≡ c .used
-    long true h = let e : c ≡ d = cc in rw e
-    long false h = no-cursor BadCall d h
+same-used k s c d h = past-prefix k s c d h (λ x. x .used ≡ c .used) (λ e. refl) (λ e p q. refl)
 
-    still : (k : Reader) → whenLong k c ≡ done d → d .used ≡ c .used
-    still (onTable t a) h = long (leb ring (length a)) h
-    still (stateless most) h = let e : c ≡ d = cc in rw e
+pub same-count : (k : Reader) (s : List ℕ) (c d : Cursor) → cursorAt k s c ≡ done d → d .count ≡ c .count
+same-count k s c d h = past-prefix k s c d h (λ x. x .count ≡ c .count) (λ e. refl) (λ e p q. refl)
 
-    go : (b : Bool) → cond b (whenLong k c) (andThen (startOf k s) (λ p. done (begun c p))) ≡ done d → d .used ≡ c .used
-    go true h = still k h
-    go false h =
-        let p = then-done (startOf k s) (λ q. done (begun c q)) d h in
-        let e : begun c (p .0) ≡ d = let z = p .2 in cc in
-        ap (λ (x : Cursor). x .used) (sym e)
+-- it has started, and stands where the other did if that had
+pub has-started : (k : Reader) (s : List ℕ) (c d : Cursor) → cursorAt k s c ≡ done d → d .started ≡ true
+has-started k s c d h = past-prefix k s c d h (λ x. x .started ≡ true) (λ e. e) (λ e p q. refl)
+
+pub same-at : (k : Reader) (s : List ℕ) (c d : Cursor) → cursorAt k s c ≡ done d → c .started ≡ true → d .at ≡ c .at
+same-at k s c d h on =
+    past-prefix k s c d h (λ x. x .at ≡ c .at) (λ e. refl) (λ e p q. let z : _≡_ {A = ℕ} 0 1 = cc in absurd (omega arith))
 
 -- ---- the strings of a line can be copied
 
