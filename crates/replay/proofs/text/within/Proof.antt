@@ -1,0 +1,19 @@
+use borrow.Author.Needs.{needs}
+use mathlib.Core.Path.{sym}
+use denote.Ref.{now}
+use lib.Seq.{length-take-le}
+use Rattle.replay.proofs.text.within.Statement.{statement}
+use Rattle.replay.proofs.text.within.Tie as tie
+use Rattle.replay.proofs.text.within.Reads as reads
+use Rattle.replay.proofs.text.within.Lts as lts
+
+-- src/text.rt:28:9
+returns : tie.Need-returns
+returns c = (search needs, sym (length-take-le _ (now (c .before .args .s)) (search needs)))
+
+-- src/text.rt:23:1
+returns-2 : tie.Need-returns-2
+returns-2 c = (search needs, sym (length-take-le _ (now (c .before .args .s)) (search needs)))
+
+pub within-spec : {M : Type 1} → statement M
+within-spec = tie.close (tie.spec returns returns-2)
