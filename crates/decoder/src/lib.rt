@@ -414,3 +414,57 @@ pub fn read_stateless(s: &[u8], max: MaxSize, fields: &mut [[usize; 3]], out: &m
         c = l.next;
     }
 }
+
+// A section on a table, its records in a lent list.
+pub fn decode_header(
+    s: &[u8],
+    arena: &[u8],
+    table: Table,
+    fields: &mut [Field],
+    out: &mut [u8],
+) -> Decoded
+    ensures { λ r. ⌜ sectionOf r (now (fields .exit)) (now (out .exit)) ≡ readAll (λ f. f) (onTable table (now (arena .entry))) (now (s .entry)) (now (fields .entry)) (now (out .entry)) ⌝ }
+{
+    let room = fields.len();
+    let mut c = Cursor {
+        started: false,
+        dynamic: false,
+        base: 0,
+        at: 0,
+        used: 0,
+        count: 0,
+        size: 0,
+    };
+    loop {
+        let l = next_on(s, arena, table, room, out, c);
+        if l.done {
+            return l.decoded;
+        }
+        fields[c.count] = l.field;
+        c = l.next;
+    }
+}
+
+// A section with no table, its records in a lent list.
+pub fn decode_stateless(s: &[u8], max: MaxSize, fields: &mut [Field], out: &mut [u8]) -> Decoded
+    ensures { λ r. ⌜ sectionOf r (now (fields .exit)) (now (out .exit)) ≡ readAll (λ f. f) (stateless (max .bytes)) (now (s .entry)) (now (fields .entry)) (now (out .entry)) ⌝ }
+{
+    let room = fields.len();
+    let mut c = Cursor {
+        started: false,
+        dynamic: false,
+        base: 0,
+        at: 0,
+        used: 0,
+        count: 0,
+        size: 0,
+    };
+    loop {
+        let l = next_stateless(s, max, room, out, c);
+        if l.done {
+            return l.decoded;
+        }
+        fields[c.count] = l.field;
+        c = l.next;
+    }
+}

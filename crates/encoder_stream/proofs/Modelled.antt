@@ -5,13 +5,12 @@ use mathlib.Core.List.{List, [], _∷_, map}
 use mathlib.Core.Option.{Option, some, none}
 use Prim.Native.Nat.{ℕ, zero, suc, _+_, _-_, _≤_, _<_}
 use native.Mathlib.Omega.{arith}
-use lib.Dec.{leb, ltb}
 use lib.ListN.{length, getD}
-use borrow.Author.Tests.{lt-ltb, leb-false, leb-true}
+use borrow.Author.Tests.{lt-ltb}
 use Rattle.answers.specs.Answer.{Answer, done, refused}
 use Rattle.answers.specs.Table.{Done, ok, replied}
 use Rattle.answers.specs.declared.Refusal.{Refusal}
-use Rattle.answers.specs.declared.Refusal.the-variants.{BadRelativeIndex, BadIndex, ShrinkBlocked}
+use Rattle.answers.specs.declared.Refusal.the-variants.{ShrinkBlocked}
 use Rattle.answers.specs.declared.Reply.{Reply}
 use Rattle.dynamic.specs.Calls.{withRing, answer, no, putBy, capacityAnswer, setCapacity}
 use Rattle.dynamic.specs.Promise.{outcome, Keeps}
@@ -39,6 +38,7 @@ use Rattle.running.specs.Run.{Took}
 use Rattle.running.proofs.Run.{Shows}
 use Rattle.static_table.specs.Static.{noField}
 use Rattle.vas.specs.Vas.{relativeAt}
+use Rattle.vas.proofs.Positions.{named-below}
 use Rattle.encoder_stream.specs.Entries.{staticName, kept as stays, naming, Held, holding, pushed, cutBy, cutUnless, positionIn, applied}
 use Rattle.encoder_stream.specs.Entries.{tookIn, entryIn as entryNamed, putIn, fieldIn, appliedIn}
 use Rattle.encoder_stream.proofs.Sources.{as-given, arrays-kept, arrays-cut}
@@ -68,18 +68,6 @@ unfolding view
 counted-in t a h =
     let rules = facts t (and-left (sound t) _ h) .ring in
     omega (arith, count-fields (t .ring) a, kept (t .ring) rules .rules .order)
-
--- a position that an index names is one of the live entries'
-position-near : (i d index p : ℕ) → relativeAt i d index ≡ done p → p < i - d
-position-near i d index p h = go (leb i d) (leb (i - index) d) (leb (i - d) (i - index - d - 1)) refl h
-  where
-    go : (a b c : Bool) → leb (i - d) (i - index - d - 1) ≡ c
-        → cond a (refused BadRelativeIndex) (cond b (refused BadRelativeIndex) (cond c (refused BadIndex) (done (i - index - d - 1)))) ≡ done p
-        → p < i - d
-    go true b c e h = let z : _≡_ {A = ℕ} 0 1 = cc in absurd (omega arith)
-    go false true c e h = let z : _≡_ {A = ℕ} 0 1 = cc in absurd (omega arith)
-    go false false true e h = let z : _≡_ {A = ℕ} 0 1 = cc in absurd (omega arith)
-    go false false false e h = let q : i - index - d - 1 ≡ p = cc in omega (arith, leb-false (i - d) (i - index - d - 1) e)
 
 module _ (t : Table) (off : t .active ≡ false) (low : ℕ) (is : low ≡ lowestUsed t) where
   low-with : (r : Ring) → low ≡ lowestUsed (withRing r t)
@@ -190,7 +178,7 @@ module _ (t : Table) (off : t .active ≡ false) (low : ℕ) (is : low ≡ lowes
     steps-on (duplicate i) =
         rw (← same-entry i)
         (naming-step (positionIn x i) _ _
-        (λ p e. let near = position-near (x .ring .inserted) (x .ring .dropped) i p e in
+        (λ p e. let near = named-below (x .ring .inserted) (x .ring .dropped) (x .ring .inserted - i) p e in
         rw (← field-there p near) (pushes (CopyOf p) [] [] (lt-ltb _ _ near))))
     steps-on (capacity c) = cuts c
     steps-on (literal n v) = pushes Given n v refl
@@ -198,7 +186,7 @@ module _ (t : Table) (off : t .active ≡ false) (low : ℕ) (is : low ≡ lowes
     steps-on (nameRef false i v) =
         rw (← same-entry i)
         (naming-step (positionIn x i) _ _
-        (λ p e. let near = position-near (x .ring .inserted) (x .ring .dropped) i p e in
+        (λ p e. let near = named-below (x .ring .inserted) (x .ring .dropped) (x .ring .inserted - i) p e in
         rw (← field-there p near) (pushes (NameOf p) [] v (lt-ltb _ _ near))))
 
   pub shows : Shows (viewed t) (Good t) (applied low) appliedIn

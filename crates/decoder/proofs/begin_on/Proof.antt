@@ -1,43 +1,59 @@
+-- `decoder::begin_on`: 22, 18, or what the prefix gives. Assumes nothing.
+use mathlib.Core.Path.{_≡_, sym, _∙_}
+use mathlib.Core.Bool.{true}
+use denote.Ref.{now}
+use borrow.Author.Tests.{not-true, not-false}
+use Rattle.dynamic.specs.Record.{sound}
+use Rattle.dynamic.proofs.Told.{told-sound}
+use Rattle.decoder.proofs.Starting.{on-short, on-started, on-broken, on-open, on-prefix}
 use borrow.Author.Needs.{needs}
 use Rattle.decoder.proofs.begin_on.Statement.{statement}
 use Rattle.decoder.proofs.begin_on.Tie as tie
-use Rattle.decoder.proofs.begin_on.Reads as reads
-use Rattle.decoder.proofs.begin_on.Lts as lts
-use Rattle.decoder.proofs.past_prefix.Reads as past-prefix-reads
-use Rattle.dynamic.proofs.Table.checked.Reads as checked-reads
-use Rattle.header_prefix.proofs.read_prefix.Reads as read-prefix-reads
 
--- src/lib.rt:315:9
 returns : tie.Need-returns
-returns c = ?
+returns c = let a = c .before .before .before .args in on-short (a .table) (now (a .arena)) (now (a .s)) (a .c) (c .if1 .taken)
 
--- src/lib.rt:318:9
 returns-2 : tie.Need-returns-2
-returns-2 c = ?
+returns-2 c = let a = c .before .before .before .before .args in on-started (a .table) (now (a .arena)) (now (a .s)) (a .c) (c .before .if1 .left) (c .if2 .taken)
 
--- src/lib.rt:320:9
+-- the call of a check
+abbrev entry : tie.After-checked → tie.Start
+entry c = c .before .before .before .before .before
+
+tells : (c : tie.After-checked) → c .checked .result .sound ≡ sound (entry c .args .table)
+tells c = told-sound (entry c .args .table) (c .checked .result) (c .checked .ensures)
+
 checked-requires : tie.Need-checked-requires
 checked-requires c κs = search needs
 
--- src/lib.rt:322:9
 returns-3 : tie.Need-returns-3
-returns-3 c = ?
+returns-3 c =
+    let check = c .before .before in
+    let a = entry check .args in
+    on-broken (a .table) (now (a .arena)) (now (a .s)) (a .c) (check .before .before .if1 .left) (check .before .if2 .left) (sym (tells check) ∙ not-true _ (c .if3 .taken))
 
--- src/lib.rt:325:9
 returns-4 : tie.Need-returns-4
-returns-4 c = ?
+returns-4 c =
+    let else = c .before in
+    let check = else .before .before in
+    let a = entry check .args in
+    on-open (a .table) (now (a .arena)) (now (a .s)) (a .c) (check .before .before .if1 .left) (check .before .if2 .left) (sym (tells check) ∙ not-false _ (else .if3 .left)) (c .if4 .taken)
 
--- src/lib.rt:327:9
 read-prefix-requires : tie.Need-read-prefix-requires
 read-prefix-requires c κs = search needs
 
--- src/lib.rt:328:5
 past-prefix-requires : tie.Need-past-prefix-requires
 past-prefix-requires c κs = search needs
 
--- src/lib.rt:311:1
 returns-5 : tie.Need-returns-5
-returns-5 c = ?
+returns-5 c =
+    let read = c .before in
+    let closed = read .before in
+    let else = closed .before in
+    let check = else .before .before in
+    let a = entry check .args in
+    on-prefix (a .table) (now (a .arena)) (now (a .s)) (a .c) (check .before .before .if1 .left) (check .before .if2 .left) (sym (tells check) ∙ not-false _ (else .if3 .left)) (closed .if4 .left)
+    (read .read-prefix .result) (read .read-prefix .ensures) (c .past-prefix .result) (c .past-prefix .ensures)
 
 pub begin-on-spec : {M : Type 1} → statement M
 begin-on-spec =

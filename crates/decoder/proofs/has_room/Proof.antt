@@ -1,33 +1,31 @@
+-- `decoder::has_room`: the list, the buffer and the sum, one after the other. Assumes nothing.
+use mathlib.Core.Path.{_≡_, _∙_}
+use Prim.Native.Nat.{_+_}
+use native.Mathlib.Omega.{arith}
+use Rattle.decoder.proofs.Sizes.{list-full, buffer-full, fits-so-far, not-past}
 use borrow.Author.Needs.{needs}
 use Rattle.decoder.proofs.has_room.Statement.{statement}
 use Rattle.decoder.proofs.has_room.Tie as tie
-use Rattle.decoder.proofs.has_room.Reads as reads
-use Rattle.decoder.proofs.has_room.Lts as lts
-use Rattle.decoder.proofs.is_past.Reads as is-past-reads
 
--- src/lib.rt:201:9
 returns : tie.Need-returns
-returns c = ?
+returns c = let a = c .before .before .args in list-full (a .room) (a .cap) (a .c) (a .name) (a .value) (c .if1 .taken)
 
--- src/lib.rt:204:9
 returns-2 : tie.Need-returns-2
-returns-2 c = ?
+returns-2 c = let a = c .before .before .before .before .args in buffer-full (a .room) (a .cap) (a .c) (a .name) (a .value) (c .before .before .if1 .left) (omega arith)
 
--- src/lib.rt:208:9
 returns-3 : tie.Need-returns-3
-returns-3 c = ?
+returns-3 c = let a = c .before .before .before .before .before .before .args in buffer-full (a .room) (a .cap) (a .c) (a .name) (a .value) (c .before .before .before .before .if1 .left) (omega arith)
 
--- src/lib.rt:211:9
 returns-4 : tie.Need-returns-4
-returns-4 c = ?
+returns-4 c = let a = c .before .before .before .before .before .before .before .args in buffer-full (a .room) (a .cap) (a .c) (a .name) (a .value) (c .before .before .before .before .before .if1 .left) (omega arith)
 
--- src/lib.rt:213:6
 is-past-requires : tie.Need-is-past-requires
 is-past-requires c κs = search needs
 
--- src/lib.rt:197:1
 returns-5 : tie.Need-returns-5
-returns-5 c = ?
+returns-5 c =
+    let a = c .before .before .before .before .before .before .before .before .args in
+    not-past 9223372036854775807 (a .c .size + (a .name + a .value + 32)) (c .is-past .result) (c .is-past .ensures) ∙ fits-so-far (a .room) (a .cap) (a .c) (a .name) (a .value) (c .before .before .before .before .before .before .if1 .left) (omega arith)
 
 pub has-room-spec : {M : Type 1} → statement M
 has-room-spec =

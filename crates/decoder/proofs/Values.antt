@@ -1,0 +1,49 @@
+-- What the walks of the two readers into a lent list share: the machine values of the declared types. Assumes nothing.
+use mathlib.Core.Path.{refl}
+use mathlib.Core.List.{[], _∷_}
+use lib.Dec.{lit<}
+use mir.Syntax.{Ty, erased, mut, w8, tyInt, tyRef}
+use mir.Val.{Val}
+use denote.Laws.{Is}
+use denote.Slice.{sliceTy}
+use denote.Struct.Laws as LL
+use Rattle.decoder.specs.Section.{start}
+use Rattle.decoder.specs.declared.Field.{Field}
+use Rattle.decoder.specs.declared.Cursor.{Cursor}
+use Rattle.decoder.specs.declared.Decoded.{Decoded}
+use Rattle.decoder.specs.declared.Line.{Line}
+use Rattle.decoder.proofs.Field as F
+use Rattle.decoder.proofs.Field.Laws as F′
+use Rattle.decoder.proofs.Cursor as C
+use Rattle.decoder.proofs.Cursor.Laws as C′
+use Rattle.decoder.proofs.Decoded as D
+use Rattle.decoder.proofs.Decoded.Laws as D′
+use Rattle.decoder.proofs.Line as L
+use Rattle.decoder.proofs.Line.Laws as L′
+
+abbrev pub field-val : Field → Val
+field-val = LL.val F.the-type F′.the-laws
+
+abbrev pub cursor-val : Cursor → Val
+cursor-val = LL.val C.the-type C′.the-laws
+
+abbrev pub decoded-val : Decoded → Val
+decoded-val = LL.val D.the-type D′.the-laws
+
+abbrev pub line-val : Line → Val
+line-val = LL.val L.the-type L′.the-laws
+
+-- the cursor before a section fits its machine value
+pub start-is : Is C.the-row start (cursor-val start ∷ [])
+start-is = LL.owes C.the-type C′.the-laws start (refl, (refl, ((refl, lit< tt), ((refl, lit< tt), ((refl, lit< tt), ((refl, lit< tt), ((refl, lit< tt), tt)))))))
+
+-- a record is stored as the line gives it
+abbrev pub as-is : Field → Field
+as-is f = f
+
+-- the types of the locals that are references
+abbrev pub byte-ref : Ty
+byte-ref = tyRef erased mut (tyInt w8)
+
+abbrev pub byte-slice : Ty
+byte-slice = sliceTy byte-ref
