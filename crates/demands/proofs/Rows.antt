@@ -283,25 +283,27 @@ applied-row t (nameRef false i v) = naming-row t (entryIn t i) _ (named-row (ins
 
 -- ---- a call on a stream: where no reader and no step answers 22, the call does not
 
-module _ {S I : Type 0} (read : List ℕ → ℕ → Answer (Option (Whole I))) (take : S → I → Took S)
-    (reads : (s : List ℕ) (at : ℕ) → Row (read s at)) (takes : (x : S) (i : I) → Row (take x i .answer)) (s : List ℕ) where
-  pub run-row : (k at : ℕ) (x : S) → Row (run read take k s at x .answer)
+module _ {S I : Type 0} (read : List ℕ → ℕ → Answer (Option (Whole I))) (take : S → I → Took S) (Good : S → Type 0)
+    (reads : (s : List ℕ) (at : ℕ) → Row (read s at)) (takes : (x : S) → Good x → (i : I) → Row (take x i .answer))
+    (stays : (x : S) → Good x → (i : I) → Good (take x i .state)) (s : List ℕ) where
+  pub run-row : (k at : ℕ) (x : S) → Good x → Row (run read take k s at x .answer)
   unfolding run
-  run-row zero at x = said _
-  run-row (suc k) at x = turn (leb (length s) at) (read s at) (reads s at) (λ e y. run-row k e y)
+  run-row zero at x g = said _
+  run-row (suc k) at x g = turn (leb (length s) at) (read s at) (reads s at) (λ e y z. run-row k e y z)
     where
-      taken : (i : Whole I) → ((e : ℕ) (y : S) → Row (run read take k s e y .answer)) → (a : Answer Done) → Row a
+      taken : (i : Whole I) → ((e : ℕ) (y : S) → Good y → Row (run read take k s e y .answer)) → (a : Answer Done) → Row a
           → Row (afterTaking x at (take x (i .instruction) .state) a (run read take k s (i .next)) .answer)
-      taken i more (done d) p = more (i .next) (take x (i .instruction) .state)
+      taken i more (done d) p = more (i .next) (take x (i .instruction) .state) (stays x g (i .instruction))
       taken i more (refused r) p = record { not-22 = p .not-22 }
 
-      turn : (over : Bool) (a : Answer (Option (Whole I))) → Row a → ((e : ℕ) (y : S) → Row (run read take k s e y .answer))
+      turn : (over : Bool) (a : Answer (Option (Whole I))) → Row a
+          → ((e : ℕ) (y : S) → Good y → Row (run read take k s e y .answer))
           → Row
           (cond over
           (ends x at (done ok))
           (afterReading x at a
           (λ i. afterTaking x at (take x (i .instruction) .state) (take x (i .instruction) .answer) (run read take k s (i .next)))) .answer)
       turn true a p more = said _
-      turn false (done (some i)) p more = taken i more (take x (i .instruction) .answer) (takes x (i .instruction))
+      turn false (done (some i)) p more = taken i more (take x (i .instruction) .answer) (takes x g (i .instruction))
       turn false (done none) p more = said _
       turn false (refused r) p more = record { not-22 = p .not-22 }
