@@ -43,17 +43,17 @@ use Rattle.vas.specs.Vas.{positionOf, named}
 pub record Row {A : Type 0} (x : Answer A) : Type 0 where
   pub not-22 : answerNumber x ≡ 22 → ⊥
 
-said : {A : Type 0} (a : A) → Row (done a)
+pub said : {A : Type 0} (a : A) → Row (done a)
 said a = record { not-22 = λ e. omega arith }
 
-cond-row : {A : Type 0} (b : Bool) (x y : Answer A) → Row x → Row y → Row (cond b x y)
+pub cond-row : {A : Type 0} (b : Bool) (x y : Answer A) → Row x → Row y → Row (cond b x y)
 cond-row true x y p q = p
 cond-row false x y p q = q
 
-past-row : {A : Type 0} (b : Bool) (x y : Answer A) → b ≡ false → Row y → Row (cond b x y)
+pub past-row : {A : Type 0} (b : Bool) (x y : Answer A) → b ≡ false → Row y → Row (cond b x y)
 past-row b x y e p = rw e p
 
-then-row : {A B : Type 0} (x : Answer A) (f : A → Answer B) → Row x → ((a : A) → Row (f a)) → Row (andThen x f)
+pub then-row : {A B : Type 0} (x : Answer A) (f : A → Answer B) → Row x → ((a : A) → Row (f a)) → Row (andThen x f)
 then-row (done a) f p q = q a
 then-row (refused r) f p q = record { not-22 = p .not-22 }
 
@@ -70,10 +70,10 @@ unfolding intFrom
 from-row n [] at = record { not-22 = λ e. omega arith }
 from-row n (b ∷ s) at = cond-row (ltb (b % 2 ^ n) (2 ^ n - 1)) _ _ (said _) (groups-row 9 s (b / 2 ^ n) (at + 1) 0 (2 ^ n - 1))
 
-module _ (s : List ℕ) (at n : ℕ) (low : 1 ≤ n) (high : n ≤ 7) where
-  int-row : Row (intAt s at n)
-  int-row = past-row (ltb n 1) _ _ (le-ltb n 1 low) (past-row (ltb 8 n) _ _ (le-ltb 8 n (omega arith)) (from-row n (drop at s) at))
+pub int-row : (s : List ℕ) (at n : ℕ) → 1 ≤ n → n ≤ 8 → Row (intAt s at n)
+int-row s at n low high = past-row (ltb n 1) _ _ (le-ltb n 1 low) (past-row (ltb 8 n) _ _ (le-ltb 8 n high) (from-row n (drop at s) at))
 
+module _ (s : List ℕ) (at n : ℕ) (low : 1 ≤ n) (high : n ≤ 7) where
   text-row : Row (textAt s at n)
   unfolding textAt
   text-row =
@@ -81,7 +81,7 @@ module _ (s : List ℕ) (at n : ℕ) (low : 1 ≤ n) (high : n ≤ 7) where
       (past-row (ltb 7 n) _ _ (le-ltb 7 n high)
       (cond-row (leb (length s) at) _ _ (record { not-22 = λ e. omega arith })
       (cond-row (eqb (hBit n (getD s at 0)) 1) _ _ (record { not-22 = λ e. omega arith })
-      (then-row (intAt s at n) (bytesAfter s) int-row
+      (then-row (intAt s at n) (bytesAfter s) (int-row s at n low (omega arith))
       (λ i. cond-row (ltb (length s - i .next) (i .value)) _ _ (record { not-22 = λ e. omega arith }) (said _))))))
 
 value-row : (s : List ℕ) (at : ℕ) → Row (textAt s at valueWidth)
@@ -100,7 +100,7 @@ module _ (s : List ℕ) (at : ℕ) where
   kind-row : (k : Kind) → Row (kindInt s at k)
   unfolding kindInt
   kind-row k =
-      then-row (intAt s at (formOf k .width)) _ (int-row s at (formOf k .width) (width-low k) (width-high k))
+      then-row (intAt s at (formOf k .width)) _ (int-row s at (formOf k .width) (width-low k) (omega (arith, width-high k)))
       (λ i. cond-row (hasForm (formOf k) (getD s at 0)) _ _ (said _) (record { not-22 = λ e. omega arith }))
 
   integer-row : (k : Kind) → Row (integerAt s at k)
@@ -263,7 +263,7 @@ naming-row : {S A : Type 0} (x : S) (n : Answer A) (f : A → Took S) → Row n 
 naming-row x (done a) f p q = q a
 naming-row x (refused r) f p q = record { not-22 = p .not-22 }
 
-named-row : (i d absolute : ℕ) → Row (named i d absolute)
+pub named-row : (i d absolute : ℕ) → Row (named i d absolute)
 named-row i d absolute =
     cond-row (leb i d) _ _ (record { not-22 = λ e. omega arith })
     (cond-row (leb absolute d) _ _ (record { not-22 = λ e. omega arith })

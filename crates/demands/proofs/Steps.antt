@@ -13,6 +13,7 @@ use Rattle.answers.specs.declared.Insertion.{Insertion}
 use Rattle.answers.specs.declared.Lookup.{Lookup}
 use Rattle.answers.specs.declared.Refusal.the-variants.{SectionOpen, BufSize}
 use Rattle.arena.specs.Ring.{longEnough}
+use Rattle.decoder.specs.Section as section
 use Rattle.decoder_stream.specs.Reports as reports
 use Rattle.decoder_stream.proofs.Receiving.{called-ready, receiving-reports}
 use Rattle.dynamic.specs.Calls as calls
@@ -37,12 +38,13 @@ use Rattle.ring.specs.declared.Source.the-variants.{Given}
 use Rattle.running.specs.Run.{Ended, ends, runAll}
 use Rattle.running.proofs.Run.{seen, run-shown, run-good}
 use Rattle.demands.specs.Calls.{State, holds, Call, setCapacity, setBlockedMaximum, put, find, insert, begin, commit, abandon}
-use Rattle.demands.specs.Calls.{acknowledge, cancel, increment, encoderStream, decoderStream, lend, numberSaid, Outcome}
+use Rattle.demands.specs.Calls.{acknowledge, cancel, increment, encoderStream, decoderStream, decodeHeader, readOn, nextOn, lend, numberSaid, Outcome}
 use Rattle.demands.specs.Calls.{replying, putting, looking, inserting, reporting, receiving, calling, LongEnough}
 use Rattle.demands.proofs.Full.{Full, capacity-full, most-full, put-full, begin-full, abandon-full, commit-full, release-full}
 use Rattle.demands.proofs.Full.{increment-full, find-full, insert-full, reports-full, instructions-good}
 use Rattle.demands.proofs.Rows.{Row, instruction-row, report-row, capacity-row, most-row, put-row, begin-row, abandon-row}
 use Rattle.demands.proofs.Rows.{commit-row, release-row, increment-row, find-row, insert-row, applied-row, run-row}
+use Rattle.demands.proofs.Sections.{line-tells, section-tells}
 
 -- a record that keeps its rules, with an arena that is long enough
 pub record Kept (x : State) : Type 0 where
@@ -237,5 +239,8 @@ module _ (t : Table) (a : List ℕ) (k : Kept (holds t a)) where
       (increment-row (view t a) n)
   call-fine (encoderStream s o) l = instructions-fine s o l
   call-fine (decoderStream s) l = reports-fine s
+  call-fine (decodeHeader s fs o) l = record { kept = k; not-22 = section-tells t a (k .usable) s (λ f. f) fs o .not-22 }
+  call-fine (readOn s fs o) l = record { kept = k; not-22 = section-tells t a (k .usable) s section.numbers fs o .not-22 }
+  call-fine (nextOn s room o c) l = record { kept = k; not-22 = line-tells t a (k .usable) s room (length o) c .not-22 }
   call-fine (lend b) l =
       record { kept = record { usable = rw (rules, l); full = k .full }; not-22 = λ e. omega arith }

@@ -9,6 +9,10 @@ use Rattle.answers.specs.Table.{Done, ok, replied, found, inserted}
 use Rattle.answers.specs.declared.Insertion.{Insertion}
 use Rattle.answers.specs.declared.Lookup.{Lookup}
 use Rattle.arena.specs.Ring.{longEnough}
+use Rattle.decoder.specs.Section as section
+use Rattle.decoder.specs.declared.Cursor.{Cursor}
+use Rattle.decoder.specs.declared.Field.{Field}
+use Rattle.decoder.specs.declared.Line.{Line}
 use Rattle.decoder_stream.specs.Reports as reports
 use Rattle.dynamic.specs.Calls as calls
 use Rattle.dynamic.specs.declared.Inserting.{Inserting}
@@ -46,6 +50,11 @@ pub data Call : Type 0 where
   encoderStream : List ℕ → List ℕ → Call
   -- a slice
   decoderStream : List ℕ → Call
+  -- a section whole: a slice, the list of records, and the buffer for the bytes; a record is a struct, or three numbers
+  decodeHeader : List ℕ → List Field → List ℕ → Call
+  readOn : List ℕ → List (List ℕ) → List ℕ → Call
+  -- a section line by line: a slice, how many records there is room for, the buffer for the bytes, and where the reader stands
+  nextOn : List ℕ → ℕ → List ℕ → Cursor → Call
   -- no call of the program: from here on another arena is lent, whatever it holds
   lend : List ℕ → Call
 
@@ -58,6 +67,11 @@ pub data Answered : Type 0 where
   reported : ℕ → Answer Done → Answered
   -- bytes consumed, the total inserted, the answer, how many bytes were written, and the whole buffer
   received : ℕ → ℕ → Answer Done → ℕ → List ℕ → Answered
+  -- what is told of a section, the whole list of records, and the whole buffer
+  decoded : section.Section Field → Answered
+  decodedNumbers : section.Section (List ℕ) → Answered
+  -- a line of a section, and the whole buffer
+  stepped : Line → List ℕ → Answered
 
 -- the number of the answer's row
 abbrev pub numberSaid : Answered → ℕ
@@ -66,6 +80,9 @@ numberSaid (looked w) = answerNumber w
 numberSaid (insertion w) = answerNumber w
 numberSaid (reported n w) = answerNumber w
 numberSaid (received n m w k o) = answerNumber w
+numberSaid (decoded x) = answerNumber (replied (x .decoded .reply))
+numberSaid (decodedNumbers x) = answerNumber (replied (x .decoded .reply))
+numberSaid (stepped l o) = answerNumber (replied (l .decoded .reply))
 
 pub record Outcome : Type 0 where
   pub state : State
@@ -100,6 +117,13 @@ receiving t o e =
       (e .told .bytes ++ drop (length (e .told .bytes)) o);
     }
 
+-- a section changes neither
+abbrev pub reading : Table → List ℕ → Answered → Outcome
+reading t a w = record { state = holds t a; answer = w }
+
+abbrev pub lineOn : Table → List ℕ → List ℕ → ℕ → List ℕ → Cursor → Line
+lineOn t a s room o c = section.lineOf (section.onTable t a) s room (length o) c
+
 abbrev pub calling : Table → List ℕ → Call → Outcome
 calling t a (setCapacity c) = replying a (calls.setCapacity t c)
 calling t a (setBlockedMaximum m) = replying a (calls.setMost t m)
@@ -114,6 +138,10 @@ calling t a (cancel stream) = replying a (calls.release t stream)
 calling t a (increment n) = replying a (calls.increment t n)
 calling t a (encoderStream s o) = receiving t o (instructions.received t a s (length o))
 calling t a (decoderStream s) = reporting a (reports.receiving t s)
+calling t a (decodeHeader s fs o) = reading t a (decoded (section.readAll (λ f. f) (section.onTable t a) s fs o))
+calling t a (readOn s fs o) = reading t a (decodedNumbers (section.readAll section.numbers (section.onTable t a) s fs o))
+calling t a (nextOn s room o c) =
+    reading t a (stepped (lineOn t a s room o c) (section.outOf (section.onTable t a) s c o (lineOn t a s room o c)))
 calling t a (lend b) = record { state = holds t b; answer = plain (done ok) }
 
 abbrev pub called : State → Call → Outcome
@@ -147,6 +175,9 @@ LongEnough (acknowledge stream) = Unit {0}
 LongEnough (cancel stream) = Unit {0}
 LongEnough (increment n) = Unit {0}
 LongEnough (decoderStream s) = Unit {0}
+LongEnough (decodeHeader s fs o) = Unit {0}
+LongEnough (readOn s fs o) = Unit {0}
+LongEnough (nextOn s room o c) = Unit {0}
 
 abbrev pub AllLongEnough : List Call → Type 0
 AllLongEnough [] = Unit {0}
