@@ -103,8 +103,7 @@ one-encoder-call t a s o b b′ p p′ r r′ w w′ =
     let consumed = one-exact (w .consumed) (w′ .consumed) in
     let inserted = one-exact (w .inserted) (w′ .inserted) in
     let written = one-exact (w .written) (w′ .written) in
-    let reply = one-reply (r .reply) (r′ .reply) (w .answer) (w′ .answer) in
-    (
+    let reply = one-reply (r .reply) (r′ .reply) (w .answer) (w′ .answer) in (
       λ i. record { table = table i; consumed = consumed i; inserted = inserted i; written = written i; reply = reply i },
       one-exact (w .arena) (w′ .arena),
       w .out ∙ ap (λ (k : ℕ). stream.received t a s (length o) .told .bytes ++ drop k o) written ∙ sym (w′ .out),
@@ -123,8 +122,7 @@ one-decoder-call t s r r′ w w′ =
 pub one-section : {R : Type 0} {x : section.Section R} (r r′ : Decoded) (fs fs′ : List R) (m m′ : List ℕ)
     → section.sectionOf r fs m ≡ x → section.sectionOf r′ fs′ m′ ≡ x → (r ≡ r′) × (fs ≡ fs′) × (m ≡ m′)
 one-section {R} r r′ fs fs′ m m′ w w′ =
-    let same = one-exact w w′ in
-    (
+    let same = one-exact w w′ in (
       ap (λ (z : section.Section R). z .decoded) same,
       ap (λ (z : section.Section R). z .fields) same,
       ap (λ (z : section.Section R). z .out) same,

@@ -1,10 +1,10 @@
 -- Over any sequence of calls: the record keeps its rules and 22 is not given; and equal tables stay equal. Assumes nothing.
-use mathlib.Core.Path.{_≡_, ap, ap₂}
+use mathlib.Core.Path.{_≡_, refl, sym, ap, ap₂, _∙_}
 use mathlib.Core.Bool.{true, false}
 use mathlib.Core.List.{List, [], _∷_}
 use Prim.Native.Nat.{ℕ, _+_, _≤_}
 use Rattle.arena.specs.Ring.{longEnough}
-use Rattle.decoder_stream.specs.Reports.{Report, Ready}
+use Rattle.decoder_stream.specs.Reports.{Report, acknowledgement, cancellation, increment, takes, Ready}
 use Rattle.dynamic.specs.Calls.{freshTable}
 use Rattle.dynamic.specs.Record.{sound}
 use Rattle.dynamic.specs.declared.Table.{Table}
@@ -15,7 +15,7 @@ use Rattle.reorder.specs.Reports.{Reordered, total}
 use Rattle.reorder.specs.Slices.{Slice, reportsIn, handedBytes}
 use Rattle.reorder.proofs.Theorem.{same-later, same-calls}
 use Rattle.ring.specs.Ring.{largestCount}
-use Rattle.demands.specs.Calls.{State, holds, Call, Outcome, numberSaid, calling, called, outcomes, after, LongEnough, AllLongEnough, Every}
+use Rattle.demands.specs.Calls.{State, holds, Call, Outcome, numberSaid, calling, called, outcomes, after, LongEnough, AllLongEnough, Every, batch}
 use Rattle.demands.proofs.Full.{Full, fresh-full}
 use Rattle.demands.proofs.Steps.{Kept, Fine, call-fine}
 
@@ -40,8 +40,7 @@ fresh-kept a l = record { usable = rw (fresh-sound, l); full = fresh-full }
 each : (x : State) → Kept x → (cs : List Call) → AllLongEnough cs → Every SoundAndNot22 (outcomes x cs)
 each x k [] w = tt
 each x k (c ∷ cs) w =
-    let f = call-fine (x .table) (x .arena) k c (w .0) in
-    (
+    let f = call-fine (x .table) (x .arena) k c (w .0) in (
       record { rules = and-left (sound (called x c .state .table)) _ (f .kept .usable); not-22 = f .not-22 },
       each (called x c .state) (f .kept) cs (w .1),
     )
@@ -68,11 +67,21 @@ fresh-stays-sound a l cs w = and-left (sound (after (holds freshTable a) cs .tab
 pub same-sequence : (t u : Table) (a b : List ℕ) → t ≡ u → a ≡ b → (cs : List Call) → outcomes (holds t a) cs ≡ outcomes (holds u b) cs
 same-sequence t u a b e f cs = ap₂ (λ (x : Table) (y : List ℕ). outcomes (holds x y) cs) e f
 
+-- what a batch of reports leaves, each report handed in by a call of its own
+batch-leaves : (xs : List Report) (t : Table) (a : List ℕ) → after (holds t a) (batch xs) ≡ holds (handed t xs .state) a
+batch-leaves [] t a = refl
+batch-leaves (acknowledgement s ∷ xs) t a = batch-leaves xs (takes t (acknowledgement s) .state) a
+batch-leaves (cancellation s ∷ xs) t a = batch-leaves xs (takes t (cancellation s) .state) a
+batch-leaves (increment n ∷ xs) t a = batch-leaves xs (takes t (increment n) .state) a
+
 -- a batch of reports in two orders that keep each stream's own, and then any calls: every record, every arena and every answer is the same
 pub same-calls-later : (t : Table) → Ready t → (xs ys : List Report) → Reordered xs ys → t .known + total xs ≤ largestCount
-    → (a : List ℕ) (cs : List Call)
-    → outcomes (holds (handed t xs .state) a) cs ≡ outcomes (holds (handed t ys .state) a) cs
-same-calls-later t g xs ys r h a cs = same-later (λ (u : Table). outcomes (holds u a) cs) t g xs ys r h
+    → (a : List ℕ) (later : List Call)
+    → outcomes (after (holds t a) (batch xs)) later ≡ outcomes (after (holds t a) (batch ys)) later
+same-calls-later t g xs ys r h a later =
+    ap (λ (x : State). outcomes x later) (batch-leaves xs t a)
+    ∙ same-later (λ (u : Table). outcomes (holds u a) later) t g xs ys r h
+    ∙ sym (ap (λ (x : State). outcomes x later) (batch-leaves ys t a))
 
 -- the same where each report came as bytes, in a call on the decoder stream of its own
 pub same-calls-after-bytes : (t : Table) → Ready t → (bs cs : List Slice) → Reordered (reportsIn bs) (reportsIn cs)
@@ -87,3 +96,12 @@ pub ours-is-ready : (a : List ℕ) → longEnough a ≡ true → (cs : List Call
 ours-is-ready a l cs w e =
     let k = last (holds freshTable a) (fresh-kept a l) cs w in
     record { rules = fresh-stays-sound a l cs w; closed = e; places = k .full .queue; values = k .full .waiting }
+
+-- so from a fresh table: any calls that leave no section open, then the batch in two orders, then any calls
+pub ours-reordered : (a : List ℕ) → longEnough a ≡ true → (first : List Call) → AllLongEnough first
+    → after (holds freshTable a) first .table .active ≡ false → (xs ys : List Report) → Reordered xs ys
+    → after (holds freshTable a) first .table .known + total xs ≤ largestCount → (later : List Call)
+    → outcomes (after (after (holds freshTable a) first) (batch xs)) later ≡ outcomes (after (after (holds freshTable a) first) (batch ys)) later
+ours-reordered a l first w e xs ys r h later =
+    let x = after (holds freshTable a) first in
+    same-calls-later (x .table) (ours-is-ready a l first w e) xs ys r h (x .arena) later

@@ -1,7 +1,7 @@
 -- Any sequence of calls on a table: what each call makes of the record and of the arena, and what it answers, to the last byte.
 use mathlib.Core.Path.{_≡_}
 use mathlib.Core.Bool.{true}
-use mathlib.Core.List.{List, [], _∷_, _++_}
+use mathlib.Core.List.{List, [], _∷_, _++_, map}
 use Prim.Native.Nat.{ℕ, _≤_}
 use lib.ListN.{length, drop}
 use Rattle.answers.specs.Answer.{Answer, done, answerNumber}
@@ -114,7 +114,7 @@ receiving t o e =
     record {
       state = holds (calls.withRing (e .state .ring) t) (e .state .arena);
       answer = received (e .consumed) (e .total) (e .told .answer) (length (e .told .bytes))
-      (e .told .bytes ++ drop (length (e .told .bytes)) o);
+          (e .told .bytes ++ drop (length (e .told .bytes)) o);
     }
 
 -- a section changes neither
@@ -187,3 +187,13 @@ AllLongEnough (c ∷ cs) = LongEnough c × AllLongEnough cs
 abbrev pub Every : (Outcome → Type 0) → List Outcome → Type 0
 Every P [] = Unit {0}
 Every P (o ∷ os) = P o × Every P os
+
+-- ---- a batch of the peer's reports, each handed in by a call of its own
+
+abbrev pub asCall : reports.Report → Call
+asCall (reports.acknowledgement stream) = acknowledge stream
+asCall (reports.cancellation stream) = cancel stream
+asCall (reports.increment n) = increment n
+
+abbrev pub batch : List reports.Report → List Call
+batch xs = map asCall xs
