@@ -1,9 +1,9 @@
 -- Every call leaves the arrays of a record as long as they are. Assumes nothing.
 use mathlib.Core.Path.{_≡_, refl, _∙_}
-use mathlib.Core.Bool.{Bool, true, false, _&&_, cond}
+use mathlib.Core.Bool.{Bool, true, false, cond}
 use mathlib.Core.List.{List}
 use mathlib.Core.Option.{Option, some, none}
-use Prim.Native.Nat.{ℕ, _+_, _-_, _≤_}
+use Prim.Native.Nat.{ℕ, _+_, _-_}
 use lib.Dec.{ltb, leb}
 use lib.ListN.{length, getD, take, length-set, length-replicate}
 use Rattle.answers.specs.Answer.{refused}
@@ -12,14 +12,14 @@ use Rattle.answers.specs.declared.Refusal.the-variants.{SectionOpen, NoSection,
 use Rattle.answers.specs.declared.Lookup.the-variants.{Static}
 use Rattle.decoder_stream.specs.Reports.{Report, acknowledgement, cancellation, increment as counting, called, takes, Ready, reportAt, receiving}
 use Rattle.decoder_stream.proofs.Receiving.{called-ready}
-use Rattle.dynamic.specs.Calls as Calls
+use Rattle.dynamic.specs.Calls as calls
 use Rattle.dynamic.specs.Record.{sound, usable, lowestUsed}
 use Rattle.dynamic.specs.declared.Inserting.{Inserting}
 use Rattle.dynamic.specs.declared.Looked.{Looked}
 use Rattle.dynamic.specs.declared.Replied.{Replied}
 use Rattle.dynamic.specs.declared.Table.{Table}
 use Rattle.dynamic.proofs.Sound.{facts}
-use Rattle.encoder_stream.specs.Entries.{Held, applied, appliedIn}
+use Rattle.encoder_stream.specs.Entries.{applied, appliedIn}
 use Rattle.encoder_stream.specs.Stream as stream
 use Rattle.encoder_stream.proofs.Modelled.{viewed, Good, shows}
 use Rattle.encoder_stream.proofs.Sources.{arrays-kept, arrays-cut}
@@ -31,12 +31,12 @@ use Rattle.ring.specs.Ring.{largestCount, pushing, cutting, roomFor}
 use Rattle.ring.specs.declared.Ring.{Ring}
 use Rattle.ring.specs.declared.Source.the-variants.{Given}
 use Rattle.ring.proofs.Keeping.{Arrays}
-use Rattle.running.specs.Run.{Ended, ends, runAll}
+use Rattle.running.specs.Run.{ends, runAll}
 use Rattle.running.proofs.Run.{run-good}
 use Rattle.static_table.specs.Static.{lowestName}
 use Rattle.tracking.specs.Queue.{pushing as queueing, releasing}
 use Rattle.tracking.specs.Uses.{noHeld, noting, placeOf}
-use Rattle.tracking.specs.Waiting.{blocking, letGo}
+use Rattle.tracking.specs.Waiting.{blocking}
 use Rattle.tracking.specs.declared.Counted.{Counted}
 use Rattle.tracking.specs.declared.Held.{Held as HeldUse}
 use Rattle.tracking.specs.declared.Noted.{Noted}
@@ -52,8 +52,8 @@ pub record Full (t : Table) : Type 0 where
   pub waiting : length (t .waiting .values) ≡ blockedValues
   pub uses : length (t .section .uses) ≡ sectionEntries
 
-pub fresh-full : Full Calls.freshTable
-unfolding Calls.freshTable
+pub fresh-full : Full calls.freshTable
+unfolding calls.freshTable
 fresh-full = record { ring = record { starts = refl; names = refl; values = refl }; queue = refl; waiting = refl; uses = refl }
 
 either : {A : Type 0} (f : A → Table) (b : Bool) (x y : A) → Full (f x) → Full (f y) → Full (f (cond b x y))
@@ -76,18 +76,18 @@ length-noting us n x =
     (length-either (length us) (ltb n sectionEntries) _ _ (length-set us _ _) refl))
     refl
 
-length-noted : (s : Section) (x : ℕ) (w : Origin) → length (Calls.notedFor s x w .uses) ≡ length (s .uses)
+length-noted : (s : Section) (x : ℕ) (w : Origin) → length (calls.notedFor s x w .uses) ≡ length (s .uses)
 length-noted s x w = go w
   where
-    one : length (Calls.notedIn s x .uses) ≡ length (s .uses)
+    one : length (calls.notedIn s x .uses) ≡ length (s .uses)
     one = length-noting (s .uses) (s .used) (x - s .from)
 
-    also : (y : ℕ) → length (Calls.noteAlso s y (Calls.notedIn s x) .uses) ≡ length (s .uses)
+    also : (y : ℕ) → length (calls.noteAlso s y (calls.notedIn s x) .uses) ≡ length (s .uses)
     also y =
-        length-either (length (s .uses)) (Calls.notedIn s x .fits) _ _
-        (length-noting (Calls.notedIn s x .uses) (Calls.notedIn s x .used) (y - s .from) ∙ one) one
+        length-either (length (s .uses)) (calls.notedIn s x .fits) _ _
+        (length-noting (calls.notedIn s x .uses) (calls.notedIn s x .used) (y - s .from) ∙ one) one
 
-    go : (w : Origin) → length (Calls.notedFor s x w .uses) ≡ length (s .uses)
+    go : (w : Origin) → length (calls.notedFor s x w .uses) ≡ length (s .uses)
     go (equalEntry y) = also y
     go (staticName i) = one
     go (namedEntry y) = also y
@@ -97,62 +97,62 @@ length-noted s x w = go w
 
 module _ (t : Table) (p : Full t) where
   -- 22, then 18 or 19, leave the record
-  closed-full : (r : Replied) → (sound t ≡ true → Full (r .table)) → Full (Calls.whenClosed t r .table)
+  closed-full : (r : Replied) → (sound t ≡ true → Full (r .table)) → Full (calls.whenClosed t r .table)
   closed-full r f = go (sound t) (t .active) f
     where
-      go : (b on : Bool) → (b ≡ true → Full (r .table)) → Full (cond b (cond on (Calls.no t SectionOpen) r) (Calls.no t BadCall) .table)
+      go : (b on : Bool) → (b ≡ true → Full (r .table)) → Full (cond b (cond on (calls.no t SectionOpen) r) (calls.no t BadCall) .table)
       go true true f = p
       go true false f = f refl
       go false on f = p
 
-  open-full : (r : Replied) → (sound t ≡ true → Full (r .table)) → Full (Calls.whenOpen t r .table)
+  open-full : (r : Replied) → (sound t ≡ true → Full (r .table)) → Full (calls.whenOpen t r .table)
   open-full r f = go (sound t) (t .active) f
     where
-      go : (b on : Bool) → (b ≡ true → Full (r .table)) → Full (cond b (cond on r (Calls.no t NoSection)) (Calls.no t BadCall) .table)
+      go : (b on : Bool) → (b ≡ true → Full (r .table)) → Full (cond b (cond on r (calls.no t NoSection)) (calls.no t BadCall) .table)
       go true true f = f refl
       go true false f = p
       go false on f = p
 
-  with-ring : (r : Ring) → Arrays r → Full (Calls.withRing r t)
+  with-ring : (r : Ring) → Arrays r → Full (calls.withRing r t)
   with-ring r w = record { ring = w; queue = p .queue; waiting = p .waiting; uses = p .uses }
 
-  with-noted : (r : Noted) → length (r .uses) ≡ length (t .section .uses) → Full (Calls.withNoted r t)
+  with-noted : (r : Noted) → length (r .uses) ≡ length (t .section .uses) → Full (calls.withNoted r t)
   with-noted r e = record { ring = p .ring; queue = p .queue; waiting = p .waiting; uses = e ∙ p .uses }
 
-  pub capacity-full : (c : ℕ) → Full (Calls.setCapacity t c .table)
-  unfolding Calls.setCapacity
-  capacity-full c = closed-full (Calls.cutUnless t c (Calls.capacityAnswer c)) (λ h. go (Calls.capacityAnswer c))
+  pub capacity-full : (c : ℕ) → Full (calls.setCapacity t c .table)
+  unfolding calls.setCapacity
+  capacity-full c = closed-full (calls.cutUnless t c (calls.capacityAnswer c)) (λ h. go (calls.capacityAnswer c))
     where
-      go : (o : Option Refusal) → Full (Calls.cutUnless t c o .table)
+      go : (o : Option Refusal) → Full (calls.cutUnless t c o .table)
       go (some r) = p
       go none =
           let k = cutting (t .ring) (lowestUsed t) c in
           either (λ (r : Replied). r .table) (k .made) _ _ (with-ring (k .ring) (arrays-cut (t .ring) (lowestUsed t) c (p .ring))) p
 
-  pub most-full : (m : ℕ) → Full (Calls.setMost t m .table)
-  unfolding Calls.setMost
+  pub most-full : (m : ℕ) → Full (calls.setMost t m .table)
+  unfolding calls.setMost
   most-full m =
       closed-full _ (λ h. either (λ (r : Replied). r .table) (leb blockedSections m) _ _ p
       (record { ring = p .ring; queue = p .queue; waiting = p .waiting; uses = p .uses }))
 
-  pub put-full : (a n v : List ℕ) → Full (Calls.put t a n v .table)
-  unfolding Calls.put
+  pub put-full : (a n v : List ℕ) → Full (calls.put t a n v .table)
+  unfolding calls.put
   put-full a n v =
       either (λ (r : Replied). r .table) (usable t a) _ _
       (either (λ (r : Replied). r .table) (t .active) _ _ p
       (with-ring _ (arrays-kept (t .ring) a (lowestUsed t) Given n v (p .ring)))) p
 
-  pub begin-full : (stream : ℕ) → Full (Calls.begin t stream .table)
-  unfolding Calls.begin
+  pub begin-full : (stream : ℕ) → Full (calls.begin t stream .table)
+  unfolding calls.begin
   begin-full stream =
       closed-full _ (λ h. record { ring = p .ring; queue = p .queue; waiting = p .waiting; uses = length-replicate sectionEntries noHeld })
 
-  pub abandon-full : Full (Calls.abandon t .table)
-  unfolding Calls.abandon
+  pub abandon-full : Full (calls.abandon t .table)
+  unfolding calls.abandon
   abandon-full = open-full _ (λ h. record { ring = p .ring; queue = p .queue; waiting = p .waiting; uses = p .uses })
 
-  pub commit-full : (largest : ℕ) → Full (Calls.commit t largest .table)
-  unfolding Calls.commit
+  pub commit-full : (largest : ℕ) → Full (calls.commit t largest .table)
+  unfolding calls.commit
   commit-full largest =
       open-full _ (λ h. either (λ (r : Replied). r .table) (ltb (t .ring .inserted) largest) _ _ p
       (either (λ (r : Replied). r .table) (q .made) _ _
@@ -162,14 +162,14 @@ module _ (t : Table) (p : Full t) where
       q = queueing (t .queue) (t .section)
 
       w : Counted
-      w = Calls.countedWith (t .waiting) (t .known) largest
+      w = calls.countedWith (t .waiting) (t .known) largest
 
       counted : sound t ≡ true → (b : Bool)
           → length (cond b (record { fits = true; waiting = t .waiting }) (blocking (t .waiting) largest) .waiting .values) ≡ blockedValues
       counted h true = p .waiting
       counted h false = blocking-values (t .waiting) largest (facts t h .waiting) (p .waiting)
 
-      next : sound t ≡ true → Full (Calls.committed (q .queue) (w .waiting) t)
+      next : sound t ≡ true → Full (calls.committed (q .queue) (w .waiting) t)
       next h =
           record {
             ring = p .ring;
@@ -178,8 +178,8 @@ module _ (t : Table) (p : Full t) where
             uses = p .uses;
           }
 
-  pub release-full : (stream : ℕ) → Full (Calls.release t stream .table)
-  unfolding Calls.release
+  pub release-full : (stream : ℕ) → Full (calls.release t stream .table)
+  unfolding calls.release
   release-full stream =
       closed-full _ (λ h. either (λ (r : Replied). r .table) (releasing (t .queue) stream .made) _ _
       (record {
@@ -189,8 +189,8 @@ module _ (t : Table) (p : Full t) where
         uses = p .uses;
       }) p)
 
-  pub increment-full : (n : ℕ) → Full (Calls.increment t n .table)
-  unfolding Calls.increment
+  pub increment-full : (n : ℕ) → Full (calls.increment t n .table)
+  unfolding calls.increment
   increment-full n =
       closed-full _ (λ h. either (λ (r : Replied). r .table) (ltb largestCount (t .known + n)) _ _ p
       (record {
@@ -200,41 +200,41 @@ module _ (t : Table) (p : Full t) where
         uses = p .uses;
       }))
 
-  pub find-full : (a n v : List ℕ) → Full (Calls.find t a n v .table)
-  unfolding Calls.find
+  pub find-full : (a n v : List ℕ) → Full (calls.find t a n v .table)
+  unfolding calls.find
   find-full a n v =
       either (λ (r : Looked). r .table) (usable t a) _ _
-      (either (λ (r : Looked). r .table) (t .active) _ _ (go (Calls.latestOf t a n v true)) p) p
+      (either (λ (r : Looked). r .table) (t .active) _ _ (go (calls.latestOf t a n v true)) p) p
     where
-      go : (o : Option ℕ) → Full (Calls.foundAt t o .table)
+      go : (o : Option ℕ) → Full (calls.foundAt t o .table)
       go none = p
       go (some k) =
           let x = t .ring .dropped + k + 1 in
-          either (λ (r : Looked). r .table) (Calls.notedIn (t .section) x .fits) _ _
-          (with-noted (Calls.notedIn (t .section) x) (length-noting _ _ _)) p
+          either (λ (r : Looked). r .table) (calls.notedIn (t .section) x .fits) _ _
+          (with-noted (calls.notedIn (t .section) x) (length-noting _ _ _)) p
 
   module _ (a n v : List ℕ) where
-    named-full : Full (Calls.notInserted t a n v .table)
-    unfolding Calls.notInserted
+    named-full : Full (calls.notInserted t a n v .table)
+    unfolding calls.notInserted
     named-full = static (lowestName n)
       where
-        go : (o : Option ℕ) → Full (Calls.nameAt t o .table)
+        go : (o : Option ℕ) → Full (calls.nameAt t o .table)
         go none = p
         go (some k) =
             let x = t .ring .dropped + k + 1 in
-            either (λ (r : Inserting). r .table) (Calls.notedIn (t .section) x .fits) _ _
-            (with-noted (Calls.notedIn (t .section) x) (length-noting _ _ _)) p
+            either (λ (r : Inserting). r .table) (calls.notedIn (t .section) x .fits) _ _
+            (with-noted (calls.notedIn (t .section) x) (length-noting _ _ _)) p
 
         static : (o : Option ℕ)
-            → Full (orElse o (λ i. Calls.notMade t (Static i)) (Calls.nameAt t (Calls.latestOf t a n v false)) .table)
+            → Full (orElse o (λ i. calls.notMade t (Static i)) (calls.nameAt t (calls.latestOf t a n v false)) .table)
         static (some i) = p
-        static none = go (Calls.latestOf t a n v false)
+        static none = go (calls.latestOf t a n v false)
 
-    made-full : (r : Room) → Full (Calls.made t r a n v .table)
-    unfolding Calls.made
+    made-full : (r : Room) → Full (calls.made t r a n v .table)
+    unfolding calls.made
     made-full r =
-        let w = Calls.originAfter (t .ring) (t .ring .dropped + r .count) a n v in
-        let u = Calls.notedFor (t .section) (t .ring .inserted + 1) w in
+        let w = calls.originAfter (t .ring) (t .ring .dropped + r .count) a n v in
+        let u = calls.notedFor (t .section) (t .ring .inserted + 1) w in
         let q = pushing (t .ring) a (lowestUsed t) Given n v in
         either (λ (r : Inserting). r .table) (u .fits) _ _
         (either (λ (r : Inserting). r .table) (ltb (t .ring .inserted) largestCount) _ _
@@ -245,8 +245,8 @@ module _ (t : Table) (p : Full t) where
           uses = length-noted (t .section) (t .ring .inserted + 1) w ∙ p .uses;
         }) p) p
 
-    pub insert-full : Full (Calls.insert t a n v .table)
-    unfolding Calls.insert
+    pub insert-full : Full (calls.insert t a n v .table)
+    unfolding calls.insert
     insert-full =
         let r = roomFor (t .ring) (lowestUsed t) (length n) (length v) in
         either (λ (r : Inserting). r .table) (usable t a) _ _

@@ -1,6 +1,6 @@
 -- A section that is read on a record that keeps its rules is not refused by 22. Assumes nothing.
 use mathlib.Core.Path.{_≡_}
-use mathlib.Core.Bool.{Bool, true, false, _&&_, cond}
+use mathlib.Core.Bool.{Bool, true, false, cond}
 use mathlib.Core.List.{List}
 use mathlib.Core.Option.{Option, some, none}
 use Prim.Native.Nat.{ℕ, zero, suc, _+_, _-_, _≤_}
@@ -9,7 +9,7 @@ use lib.Dec.{ltb, leb, eqb}
 use lib.ListN.{length, set}
 use lib.Seq.{sets}
 use borrow.Author.Tests.{le-ltb}
-use Rattle.answers.specs.Answer.{Answer, done, refused, answerNumber, andThen}
+use Rattle.answers.specs.Answer.{Answer, done, refused}
 use Rattle.answers.specs.Table.{replied}
 use Rattle.arena.specs.Ring.{longEnough}
 use Rattle.block.specs.Lines.{FieldLine, indexed, named, literal, lineAt}
@@ -23,13 +23,14 @@ use Rattle.dynamic.specs.Record.{sound, usable}
 use Rattle.dynamic.specs.declared.Table.{Table}
 use Rattle.dynamic.proofs.Sound.{facts}
 use Rattle.entries.proofs.Chain.{and-left, and-right}
-use Rattle.field_lines.specs.Line.{Read, Live, staticField, liveAt, entryOn, fieldOfLine, lineOn, liveOf}
+use Rattle.field_lines.specs.Line.{Read, Live, staticField, entryOn, fieldOfLine, lineOn, liveOf}
 use Rattle.header_prefix.specs.Prefix.{requiredCount, baseOf, largestBase, notMissing, prefixOf, prefixAt}
 use Rattle.prefix_int.specs.Integer.{intAt}
 use Rattle.ring.specs.Ring.{largestCount}
 use Rattle.ring.proofs.Keeping.{kept}
 use Rattle.vas.specs.Vas.{isLive}
-use Rattle.demands.proofs.Rows.{Row, said, cond-row, past-row, then-row, int-row, named-row}
+use Rattle.demands.proofs.ModelRows.{named-row}
+use Rattle.demands.proofs.Rows.{Row, said, cond-row, past-row, then-row, int-row}
 
 met-row : {A : Type 0} (b : Bool) (x y : Answer A) → b ≡ true → Row x → Row (cond b x y)
 met-row b x y e p = rw e p

@@ -6,18 +6,18 @@ use Prim.Native.Nat.{ℕ, _+_, _≤_}
 use Rattle.arena.specs.Ring.{longEnough}
 use Rattle.decoder_stream.specs.Reports.{Report, acknowledgement, cancellation, increment, takes, Ready}
 use Rattle.dynamic.specs.Calls.{freshTable}
-use Rattle.dynamic.specs.Record.{sound}
+use Rattle.dynamic.specs.Record.{sound, usable}
 use Rattle.dynamic.specs.declared.Table.{Table}
 use Rattle.dynamic.proofs.Fresh.{fresh-sound}
 use Rattle.entries.proofs.Chain.{and-left}
 use Rattle.reorder.specs.Batch.{handed}
 use Rattle.reorder.specs.Reports.{Reordered, total}
 use Rattle.reorder.specs.Slices.{Slice, reportsIn, handedBytes}
-use Rattle.reorder.proofs.Theorem.{same-later, same-calls}
+use Rattle.reorder.proofs.Theorem.{same-outcome, same-calls}
 use Rattle.ring.specs.Ring.{largestCount}
 use Rattle.demands.specs.Calls.{State, holds, Call, Outcome, numberSaid, calling, called, outcomes, after, LongEnough, AllLongEnough, Every, batch}
 use Rattle.demands.proofs.Full.{Full, fresh-full}
-use Rattle.demands.proofs.Steps.{Kept, Fine, call-fine}
+use Rattle.demands.proofs.Steps.{Kept, call-fine}
 
 -- ---- "Fresh is sound, every call keeps it, so that 22 is not given for a record that came from ours with its live strings as left"
 
@@ -26,16 +26,19 @@ pub record SoundAndNot22 (o : Outcome) : Type 0 where
   pub rules : sound (o .state .table) ≡ true
   pub not-22 : numberSaid (o .answer) ≡ 22 → ⊥
 
+long-enough : (t : Table) (a : List ℕ) → sound t ≡ true → longEnough a ≡ true → usable t a ≡ true
+long-enough t a h l = rw (h, l)
+
 -- one call, on any record that keeps its rules (in the program every array of a record has all its places)
 pub sound-not-22 : (t : Table) → Full t → sound t ≡ true → (a : List ℕ) → longEnough a ≡ true
     → (c : Call) → LongEnough c → SoundAndNot22 (calling t a c)
 sound-not-22 t f h a l c w =
-    let k = call-fine t a (record { usable = rw (h, l); full = f }) c w in
+    let k = call-fine t a (record { usable = long-enough t a h l; full = f }) c w in
     record { rules = and-left (sound (calling t a c .state .table)) _ (k .kept .usable); not-22 = k .not-22 }
 
 -- a fresh table keeps its rules
 fresh-kept : (a : List ℕ) → longEnough a ≡ true → Kept (holds freshTable a)
-fresh-kept a l = record { usable = rw (fresh-sound, l); full = fresh-full }
+fresh-kept a l = record { usable = long-enough freshTable a fresh-sound l; full = fresh-full }
 
 each : (x : State) → Kept x → (cs : List Call) → AllLongEnough cs → Every SoundAndNot22 (outcomes x cs)
 each x k [] w = tt
@@ -74,14 +77,17 @@ batch-leaves (acknowledgement s ∷ xs) t a = batch-leaves xs (takes t (acknowle
 batch-leaves (cancellation s ∷ xs) t a = batch-leaves xs (takes t (cancellation s) .state) a
 batch-leaves (increment n ∷ xs) t a = batch-leaves xs (takes t (increment n) .state) a
 
--- a batch of reports in two orders that keep each stream's own, and then any calls: every record, every arena and every answer is the same
+-- a batch of reports in two orders that keep each stream's own leaves one record
+pub same-state : (t : Table) → Ready t → (xs ys : List Report) → Reordered xs ys → t .known + total xs ≤ largestCount
+    → (a : List ℕ) → after (holds t a) (batch xs) ≡ after (holds t a) (batch ys)
+same-state t g xs ys r h a =
+    batch-leaves xs t a ∙ ap (λ (u : Table). holds u a) (same-outcome t g xs ys r h .runs .states) ∙ sym (batch-leaves ys t a)
+
+-- so in any calls after it every record, every arena, every answer and every buffer is the same
 pub same-calls-later : (t : Table) → Ready t → (xs ys : List Report) → Reordered xs ys → t .known + total xs ≤ largestCount
     → (a : List ℕ) (later : List Call)
     → outcomes (after (holds t a) (batch xs)) later ≡ outcomes (after (holds t a) (batch ys)) later
-same-calls-later t g xs ys r h a later =
-    ap (λ (x : State). outcomes x later) (batch-leaves xs t a)
-    ∙ same-later (λ (u : Table). outcomes (holds u a) later) t g xs ys r h
-    ∙ sym (ap (λ (x : State). outcomes x later) (batch-leaves ys t a))
+same-calls-later t g xs ys r h a later = ap (λ (x : State). outcomes x later) (same-state t g xs ys r h a)
 
 -- the same where each report came as bytes, in a call on the decoder stream of its own
 pub same-calls-after-bytes : (t : Table) → Ready t → (bs cs : List Slice) → Reordered (reportsIn bs) (reportsIn cs)

@@ -1,8 +1,8 @@
 -- One call on a record that keeps its rules: it leaves one that keeps them, and does not answer 22. Assumes nothing.
 use mathlib.Core.Path.{_≡_, refl, sym, ap, subst, _∙_}
-use mathlib.Core.Bool.{Bool, true, false, _&&_, cond}
+use mathlib.Core.Bool.{Bool, true, false, cond}
 use mathlib.Core.List.{List, []}
-use Prim.Native.Nat.{ℕ, _-_, _≤_}
+use Prim.Native.Nat.{ℕ, _≤_}
 use native.Mathlib.Omega.{arith}
 use lib.Dec.{leb, eqb}
 use lib.ListN.{length}
@@ -17,7 +17,7 @@ use Rattle.decoder.specs.Section as section
 use Rattle.decoder_stream.specs.Reports as reports
 use Rattle.decoder_stream.proofs.Receiving.{called-ready, receiving-reports}
 use Rattle.dynamic.specs.Calls as calls
-use Rattle.dynamic.specs.Promise.{outcome, Keeps, Puts, Finds, Inserts}
+use Rattle.dynamic.specs.Promise.{Keeps, Puts}
 use Rattle.dynamic.specs.Record.{view, sound, usable, lowestUsed}
 use Rattle.dynamic.specs.declared.Replied.{Replied}
 use Rattle.dynamic.specs.declared.Table.{Table}
@@ -36,14 +36,15 @@ use Rattle.model.specs.Table as model
 use Rattle.ring.specs.Ring.{pushing, bytesAfter, placedBytes}
 use Rattle.ring.specs.declared.Source.the-variants.{Given}
 use Rattle.running.specs.Run.{Ended, ends, runAll}
-use Rattle.running.proofs.Run.{seen, run-shown, run-good}
+use Rattle.running.proofs.Run.{run-shown, run-good}
 use Rattle.demands.specs.Calls.{State, holds, Call, setCapacity, setBlockedMaximum, put, find, insert, begin, commit, abandon}
 use Rattle.demands.specs.Calls.{acknowledge, cancel, increment, encoderStream, decoderStream, decodeHeader, readOn, nextOn, lend, numberSaid, Outcome}
 use Rattle.demands.specs.Calls.{replying, putting, looking, inserting, reporting, receiving, calling, LongEnough}
 use Rattle.demands.proofs.Full.{Full, capacity-full, most-full, put-full, begin-full, abandon-full, commit-full, release-full}
 use Rattle.demands.proofs.Full.{increment-full, find-full, insert-full, reports-full, instructions-good}
-use Rattle.demands.proofs.Rows.{Row, instruction-row, report-row, capacity-row, most-row, put-row, begin-row, abandon-row}
-use Rattle.demands.proofs.Rows.{commit-row, release-row, increment-row, find-row, insert-row, applied-row, run-row}
+use Rattle.demands.proofs.ModelRows.{capacity-row, most-row, put-row, begin-row, abandon-row, commit-row, release-row}
+use Rattle.demands.proofs.ModelRows.{increment-row, find-row, insert-row, applied-row, run-row}
+use Rattle.demands.proofs.Rows.{Row, instruction-row, report-row}
 use Rattle.demands.proofs.Sections.{line-tells, section-tells}
 
 -- a record that keeps its rules, with an arena that is long enough
