@@ -2,7 +2,6 @@
 ghost use mathlib.Core.Path.{_≡_};
 ghost use mathlib.Core.Bool.{true, false};
 ghost use Prim.Native.Nat.{_+_, _≤_, _<_};
-ghost use lib.ListN.{length};
 ghost use Rattle.dynamic.specs.Record.{sound};
 ghost use Rattle.running.specs.Run.{runAll};
 ghost use Rattle.decoder_stream.specs.Reports.{reportAt, reportRead, takes, reported, Receives};

@@ -9,7 +9,7 @@ ghost use Rattle.vas.specs.Vas.{located, relativeAt};
 ghost use Rattle.running.specs.Run.{runAll};
 ghost use Rattle.instructions.specs.Instruction as spec-instruction;
 ghost use Rattle.instructions.specs.Instruction.{instructionAt, parsed, Inside};
-ghost use Rattle.encoder_stream.specs.Entries.{holding, took, pushed, naming, staticName, cutUnless, applied};
+ghost use Rattle.encoder_stream.specs.Entries.{holding, took, pushed, applied};
 ghost use Rattle.encoder_stream.specs.Stream.{incrementRoom, incremented, told, Tells, ranTo, Receives};
 use answers::Refusal;
 use answers::Reply;

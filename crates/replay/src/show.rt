@@ -1,4 +1,5 @@
 // A table's whole record as text.
+ghost use mathlib.Core.Path.{_≡_};
 ghost use Prim.Native.Nat.{_≤_};
 use crate::answer;
 use crate::input::ARENA;
@@ -20,7 +21,7 @@ use tracking::Waiting;
 
 // A u16 as a usize.
 pub fn wide(x: u16) -> usize
-    ensures { λ r. ⌜ r ≤ 65535 ⌝ }
+    ensures { λ r. ⌜ (r ≡ x) × (r ≤ 65535) ⌝ }
 {
     x as usize
 }
