@@ -239,15 +239,16 @@ def main():
         write_script(sys.stdin.buffer.read().decode().split("\n"), sys.stdout.buffer)
 
 
-try:
-    main()
-    sys.stdout.flush()
-except Bad as why:
-    sys.stdout.flush()
-    print(f"replay.py: {why}", file=sys.stderr)
-    sys.exit(2)
-except UnicodeDecodeError:
-    print("replay.py: the lines are not UTF-8", file=sys.stderr)
-    sys.exit(2)
-except BrokenPipeError:
-    sys.exit(2)
+if __name__ == "__main__":
+    try:
+        main()
+        sys.stdout.flush()
+    except Bad as why:
+        sys.stdout.flush()
+        print(f"replay.py: {why}", file=sys.stderr)
+        sys.exit(2)
+    except UnicodeDecodeError:
+        print("replay.py: the lines are not UTF-8", file=sys.stderr)
+        sys.exit(2)
+    except BrokenPipeError:
+        sys.exit(2)

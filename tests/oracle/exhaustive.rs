@@ -1,0 +1,290 @@
+//! Short inputs, all of them.
+use crate::pair::{Fault, Pair};
+use crate::random::integer;
+use crate::script::{op, Command};
+
+type List = fn(&mut Pair) -> Result<(), Fault>;
+
+pub const LISTS: &[(&str, List)] = &[
+    ("integers", integers),
+    ("bytes", bytes),
+    ("prefixes", prefixes),
+    ("bounds", bounds),
+    ("encoder-streams", encoder_streams),
+    ("decoder-streams", decoder_streams),
+    ("sections", sections),
+    ("stateless", stateless),
+];
+
+/// All strings of bytes up to a length, shortest first.
+fn strings(longest: usize, mut each: impl FnMut(&[u8]) -> Result<(), Fault>) -> Result<(), Fault> {
+    for len in 0..=longest as u32 {
+        for n in 0..256u64.pow(len) {
+            let b = n.to_be_bytes();
+            each(&b[8 - len as usize..])?;
+        }
+    }
+    Ok(())
+}
+
+fn around(width: u64) -> Vec<u64> {
+    let top = (1u64 << width) - 1;
+    let mut values = vec![0, 1, 2, 10, 1337, u64::MAX, u64::MAX - 1];
+    for k in 0..64 {
+        let edge = 1u64 << k;
+        values.extend([edge - 1, edge, edge + 1, top.wrapping_add(edge - 1), top.wrapping_add(edge), top.wrapping_add(edge + 1)]);
+    }
+    values.push(top);
+    values.sort();
+    values.dedup();
+    values
+}
+
+/// Every width and value around each boundary: size, written into every buffer that matters, read back whole and cut everywhere.
+fn integers(p: &mut Pair) -> Result<(), Fault> {
+    p.reset()?;
+    for width in 0..=9 {
+        for value in around(width.min(8)) {
+            p.step(Command::new(op::INT_SIZE, 0, &[value, width], &[]))?;
+            for flags in [0, 1, 2, 127, 255] {
+                for room in [0, 1, 2, 9, 10, 11, 12] {
+                    p.step(Command::new(op::INT_WRITE, 0, &[0, width, flags, value], &[]).buffer(room, 0xee))?;
+                }
+            }
+            p.step(Command::new(op::INT_WRITE, 0, &[3, width, 0, value], &[]).buffer(13, 0))?;
+            p.step(Command::new(op::INT_WRITE, 0, &[u64::MAX, width, 0, value], &[]).buffer(13, 0))?;
+            if (1..=8).contains(&width) {
+                let s = integer(width as u8, 0, value);
+                for end in 0..=s.len() {
+                    p.step(Command::new(op::INT_READ, 0, &[0, width], &[&s[..end]]))?;
+                }
+            }
+        }
+    }
+    Ok(())
+}
+
+/// Every first byte and kind, every static entry, and the single readers on all strings of two bytes.
+fn bytes(p: &mut Pair) -> Result<(), Fault> {
+    p.reset()?;
+    for first in 0..256 {
+        for o in [op::ENCODER_KIND, op::DECODER_KIND, op::LINE_KIND] {
+            p.step(Command::new(o, 0, &[first], &[]))?;
+        }
+    }
+    for index in 0..300 {
+        p.step(Command::new(op::STATIC_GET, 0, &[index], &[]))?;
+    }
+    calls(p, 2, |s, out| {
+        for kind in [0, 1, 4, 5, 6] {
+            out.push(Command::new(op::STREAM_READ_INTEGER, 0, &[kind, 0], &[s]));
+        }
+        for width in 1..=8 {
+            out.push(Command::new(op::INT_READ, 0, &[0, width], &[s]));
+            out.push(Command::new(op::TEXT_READ, 0, &[0, width], &[s]));
+        }
+        for o in [op::STREAM_READ_NAME_REF, op::STREAM_READ_LITERAL, op::BLOCK_READ_LINE] {
+            out.push(Command::new(o, 0, &[0], &[s]));
+        }
+    })
+}
+
+/// Every prefix for small capacities and counts.
+fn prefixes(p: &mut Pair) -> Result<(), Fault> {
+    p.reset()?;
+    for capacity in [0, 1, 31, 32, 63, 64, 96, 128, 220] {
+        for total in 0..20 {
+            for count in 0..20 {
+                for sign in [0, 1] {
+                    for delta in 0..8 {
+                        let mut s = integer(8, 0, count);
+                        s.extend(integer(7, sign, delta));
+                        p.step(Command::new(op::READ_PREFIX, 0, &[0, total, capacity], &[&s]))?;
+                    }
+                }
+            }
+        }
+    }
+    Ok(())
+}
+
+/// A section of some finds, committed.
+fn section_of(p: &mut Pair, stream: u64, finds: u64, largest: u64) -> Result<(), Fault> {
+    p.step(Command::new(op::BEGIN, 0, &[stream], &[]))?;
+    for k in 0..finds {
+        p.step(Command::new(op::FIND, 0, &[], &[b"x", k.to_string().as_bytes()]))?;
+    }
+    p.step(Command::new(op::COMMIT, 0, &[largest], &[]))
+}
+
+fn entries(p: &mut Pair, count: u64) -> Result<(), Fault> {
+    p.reset()?;
+    p.step(Command::new(op::SET_CAPACITY, 0, &[16_384], &[]))?;
+    p.step(Command::new(op::SET_MAX_BLOCKED, 0, &[65_534], &[]))?;
+    (0..count).try_for_each(|k| p.step(Command::new(op::PUT, 0, &[], &[b"x", k.to_string().as_bytes()])))
+}
+
+/// Every bound from both sides: entries and uses of a section, queued sections, blocked values and sections, inserts in a call, counts.
+fn bounds(p: &mut Pair) -> Result<(), Fault> {
+    // 33 entries, in finds and in inserts that refer to one more
+    entries(p, 40)?;
+    section_of(p, 1, 34, 40)?;
+    for finds in 29..33 {
+        p.step(Command::new(op::BEGIN, 0, &[2], &[]))?;
+        for k in 0..finds as u64 {
+            p.step(Command::new(op::FIND, 0, &[], &[b"x", k.to_string().as_bytes()]))?;
+        }
+        for (name, value) in [(&b"x"[..], &b"39"[..]), (b"x", b"new"), (b"y", b"new"), (b":path", b"new")] {
+            p.step(Command::new(op::INSERT, 0, &[], &[name, value]))?;
+        }
+        p.step(Command::new(op::ABANDON, 0, &[], &[]))?;
+    }
+    // 256 uses of one entry
+    p.step(Command::new(op::BEGIN, 0, &[3], &[]))?;
+    for _ in 0..257 {
+        p.step(Command::new(op::FIND, 0, &[], &[b"x", b"7"]))?;
+    }
+    p.step(Command::new(op::INSERT, 0, &[], &[b"x", b"7"]))?;
+    p.step(Command::new(op::COMMIT, 0, &[0], &[]))?;
+    // 33 sections, 65 blocked values
+    entries(p, 80)?;
+    for k in 0..34 {
+        section_of(p, k % 5, 1, 0)?;
+        p.step(Command::new(op::ABANDON, 0, &[], &[]))?;
+    }
+    entries(p, 80)?;
+    for k in 0..70 {
+        section_of(p, 9, 1, k + 1)?;
+        p.step(Command::new(op::ABANDON, 0, &[], &[]))?;
+        p.step(Command::new(op::ACKNOWLEDGE, 0, &[9], &[]))?;
+    }
+    p.step(Command::new(op::INCREMENT, 0, &[40], &[]))?;
+    section_of(p, 9, 1, 70)?;
+    many_blocked(p)?;
+    many_inserts(p)?;
+    high_counts(p)
+}
+
+/// 65,535 blocked sections, and one more.
+fn many_blocked(p: &mut Pair) -> Result<(), Fault> {
+    entries(p, 3)?;
+    let made = p.log.len();
+    for k in 0..65_537u64 {
+        p.step(Command::new(op::BEGIN, 0, &[1], &[]))?;
+        p.step(Command::new(op::COMMIT, 0, &[1 + k % 3], &[]))?;
+        p.step(Command::new(op::ABANDON, 0, &[], &[]))?;
+        p.step(Command::new(op::ACKNOWLEDGE, 0, &[1], &[]))?;
+        if p.log.len() > 100_000 {
+            p.log.truncate(made);
+        }
+    }
+    p.step(Command::new(op::INCREMENT, 0, &[2], &[]))?;
+    section_of(p, 1, 3, 3)
+}
+
+/// 254 to 257 inserts in one call, of each kind.
+fn many_inserts(p: &mut Pair) -> Result<(), Fault> {
+    for n in 254..258 {
+        for one in [&b"\x41a\x01b"[..], b"\xc1\x01b", b"\x00", b"\x80\x01c"] {
+            entries(p, 2)?;
+            let s = one.repeat(n);
+            p.step(Command::new(op::ON_ENCODER_RECV, 0, &[], &[&s]).buffer(5, 1))?;
+            let mut bad = s.clone();
+            bad.extend(b"\xff\x24\x00");
+            p.step(Command::new(op::ON_ENCODER_RECV, 0, &[], &[&bad]).buffer(5, 1))?;
+        }
+    }
+    Ok(())
+}
+
+/// Counts at 2^62-1.
+fn high_counts(p: &mut Pair) -> Result<(), Fault> {
+    for below in 0..4u64 {
+        let count = (1 << 62) - 1 - below;
+        p.reset()?;
+        for field in [0, 1, 9] {
+            p.step(Command::new(op::SET, 0, &[field, 0, count], &[]))?;
+        }
+        p.step(Command::new(op::SET_CAPACITY, 0, &[200], &[]))?;
+        p.step(Command::new(op::SET_MAX_BLOCKED, 0, &[2], &[]))?;
+        p.step(Command::new(op::PUT, 0, &[], &[b"a", b"b"]))?;
+        p.step(Command::new(op::BEGIN, 0, &[1], &[]))?;
+        for _ in 0..2 {
+            p.step(Command::new(op::INSERT, 0, &[], &[b"a", b"b"]))?;
+        }
+        p.step(Command::new(op::COMMIT, 0, &[count], &[]))?;
+        p.step(Command::new(op::ON_ENCODER_RECV, 0, &[], &[b"\x41a\x01b\x00\x00"]).buffer(3, 0))?;
+        for n in 0..5 {
+            p.step(Command::new(op::INCREMENT, 0, &[n], &[]))?;
+            p.step(Command::new(op::ON_DECODER_RECV, 0, &[], &[&[n as u8, 1]]))?;
+        }
+    }
+    Ok(())
+}
+
+/// Tables to try things on: 1 empty at capacity 0, 2 with B.2's two entries, 3 after drops, with a section committed and entries in use.
+fn tables(p: &mut Pair) -> Result<(), Fault> {
+    p.reset()?;
+    p.step(Command::new(op::SET_CAPACITY, 2, &[220], &[]))?;
+    p.step(Command::new(op::PUT, 2, &[], &[b":authority", b"www.example.com"]))?;
+    p.step(Command::new(op::PUT, 2, &[], &[b":path", b"/sample/path"]))?;
+    p.step(Command::new(op::SET_CAPACITY, 3, &[106], &[]))?;
+    p.step(Command::new(op::SET_MAX_BLOCKED, 3, &[2], &[]))?;
+    for value in [b"a", b"b", b"c", b"d"] {
+        p.step(Command::new(op::PUT, 3, &[], &[b"x", value]))?;
+    }
+    for stream in [1, 1, 2] {
+        p.step(Command::new(op::BEGIN, 3, &[stream], &[]))?;
+        p.step(Command::new(op::FIND, 3, &[], &[b"x", b"d"]))?;
+        p.step(Command::new(op::COMMIT, 3, &[stream], &[]))?;
+    }
+    Ok(())
+}
+
+/// How many short inputs go together: what is sent fits a pipe.
+const TOGETHER: usize = 256;
+
+/// All strings up to a length, each made into calls that are sent many at a time.
+fn calls(p: &mut Pair, longest: usize, mut make: impl FnMut(&[u8], &mut Vec<Command>)) -> Result<(), Fault> {
+    let made = p.log.len();
+    let mut waiting = Vec::new();
+    strings(longest, |s| {
+        make(s, &mut waiting);
+        if waiting.len() < TOGETHER {
+            return Ok(());
+        }
+        p.log.truncate(made);
+        p.batch(std::mem::take(&mut waiting))
+    })?;
+    p.batch(waiting)
+}
+
+/// On a copy of each table: all of up to two bytes, and of three bytes on the table with entries in use.
+fn on_each(p: &mut Pair, call: impl Fn(&[u8]) -> Command) -> Result<(), Fault> {
+    tables(p)?;
+    for (from, longest) in [(1, 2), (2, 2), (3, 3)] {
+        calls(p, longest, |s, out| out.extend([Command::new(op::COPY, 0, &[from], &[]), call(s)]))?;
+    }
+    Ok(())
+}
+
+fn encoder_streams(p: &mut Pair) -> Result<(), Fault> {
+    on_each(p, |s| Command::new(op::ON_ENCODER_RECV, 0, &[], &[s]).buffer(4, 0xaa))
+}
+
+fn decoder_streams(p: &mut Pair) -> Result<(), Fault> {
+    on_each(p, |s| Command::new(op::ON_DECODER_RECV, 0, &[], &[s]))
+}
+
+fn sections(p: &mut Pair) -> Result<(), Fault> {
+    tables(p)?;
+    for (table, longest) in [(1, 2), (2, 3), (3, 3)] {
+        calls(p, longest, |s, out| out.push(Command::new(op::SECTION_ON, table, &[8], &[s]).buffer(600, 0xaa)))?;
+    }
+    Ok(())
+}
+
+fn stateless(p: &mut Pair) -> Result<(), Fault> {
+    p.reset()?;
+    calls(p, 3, |s, out| out.push(Command::new(op::SECTION_STATELESS, 0, &[8, 100], &[s]).buffer(600, 0xaa)))
+}

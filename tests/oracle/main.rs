@@ -1,0 +1,138 @@
+//! The differential runs: calls on the crate and on the program replay, compared step by step (docs/DIFFERENCES.md).
+mod calls;
+mod exhaustive;
+mod leaves;
+mod listed;
+mod numbers;
+mod ours;
+mod pair;
+mod random;
+mod script;
+mod shrink;
+mod streams;
+mod table;
+
+use pair::{Fault, Pair};
+use std::time::{Duration, Instant};
+
+/// One clear line, and the end.
+pub fn stop(what: &str) -> ! {
+    eprintln!("differ: {what}");
+    std::process::exit(2)
+}
+
+const USAGE: &str = "usage: differ REPLAY random SEED STEPS|MINUTESm, differ REPLAY short NAME|all, or differ REPLAY script < SCRIPT";
+
+/// What a run is given: a number of steps, or of minutes.
+enum Until {
+    Steps(u64),
+    Time(Instant),
+}
+
+fn until(word: &str) -> Until {
+    let (digits, minutes) = word.strip_suffix('m').map_or((word, false), |d| (d, true));
+    match (digits.parse::<u64>(), minutes) {
+        (Ok(n), false) => Until::Steps(n),
+        (Ok(n), true) => Until::Time(Instant::now() + Duration::from_secs(60 * n)),
+        _ => stop(USAGE),
+    }
+}
+
+fn is_over(u: &Until, steps: u64) -> bool {
+    match u {
+        Until::Steps(n) => steps >= *n,
+        Until::Time(t) => Instant::now() >= *t,
+    }
+}
+
+fn random(program: &str, seed: &str, end: &str) {
+    let seed: u64 = seed.parse().unwrap_or_else(|_| stop(USAGE));
+    let end = until(end);
+    let mut p = Pair::start(program);
+    let mut r = random::Random::new(seed);
+    let mut told = Instant::now();
+    while !is_over(&end, p.steps) {
+        if let Err(f) = random::episode(&mut p, &mut r) {
+            fault(program, &p, f);
+        }
+        if told.elapsed() > Duration::from_secs(20) {
+            eprintln!("seed {seed}: {} steps", p.steps);
+            told = Instant::now();
+        }
+    }
+    println!("random, seed {seed}: {} steps, no unlisted difference", p.steps);
+    report(&p);
+}
+
+fn short(program: &str, name: &str) {
+    for (each, list) in exhaustive::LISTS {
+        if name != "all" && name != *each {
+            continue;
+        }
+        let mut p = Pair::start(program);
+        if let Err(f) = list(&mut p) {
+            fault(program, &p, f);
+        }
+        println!("short, {each}: {} steps, no unlisted difference", p.steps);
+        report(&p);
+    }
+}
+
+/// The listed differences that were met, and which answers ours gave.
+fn report(p: &Pair) {
+    for (name, n) in &p.listed {
+        println!("  listed {name}: {n}");
+    }
+    let mut answers = std::collections::BTreeMap::new();
+    for ((_, number), n) in &p.answers {
+        *answers.entry(*number).or_insert(0) += n;
+    }
+    let all: Vec<String> = answers.iter().map(|(a, n)| format!("{a}: {n}")).collect();
+    println!("  answers {}", all.join(", "));
+}
+
+/// The fault with the shortest script that shows it.
+fn fault(program: &str, p: &Pair, f: Fault) -> ! {
+    println!("a difference that is on no list, after {} steps:", p.steps);
+    let script = shrink::shortest(program, &p.log);
+    let f = shrink::run(program, &script).unwrap_or(f);
+    let mut bytes = Vec::new();
+    script.iter().for_each(|c| c.write(&mut bytes));
+    let file = "target/oracle/shortest.script";
+    std::fs::write(file, bytes).unwrap_or_else(|e| stop(&format!("{file}: {e}")));
+    println!("  opcode {}\n  the Rust: {}\n  ours:     {}", f.command.op, f.rust, f.ours);
+    println!("  {} commands in {file}; python3 tests/replay.py --show < {file}", script.len());
+    std::process::exit(1)
+}
+
+/// A script's calls on both sides, each answer of ours with what the crate's side says of it.
+fn script(program: &str) {
+    let mut bytes = Vec::new();
+    std::io::Read::read_to_end(&mut std::io::stdin(), &mut bytes).unwrap_or_else(|e| stop(&e.to_string()));
+    let mut rest = &bytes[..];
+    let mut p = Pair::start(program);
+    while !rest.is_empty() {
+        let (c, after) = script::Command::read(rest).unwrap_or_else(|e| stop(&e));
+        rest = after;
+        if let Err(f) = p.step(c) {
+            println!("step {}: the Rust: {}; ours: {}", p.steps + 1, f.rust, f.ours);
+            std::process::exit(1)
+        }
+    }
+    println!("script: {} steps, no unlisted difference", p.steps);
+    report(&p);
+}
+
+fn main() {
+    // a panic of the crate is an answer, and is told by the step
+    std::panic::set_hook(Box::new(|_| {}));
+    let args: Vec<String> = std::env::args().skip(1).collect();
+    let words: Vec<&str> = args.iter().map(String::as_str).collect();
+    match words[..] {
+        ["differences"] => listed::ALL.iter().for_each(|l| println!("{}: {}", l.name, l.what)),
+        [program, "random", seed, end] => random(program, seed, end),
+        [program, "short", name] => short(program, name),
+        [program, "script"] => script(program),
+        _ => stop(USAGE),
+    }
+}
