@@ -41,7 +41,8 @@ use Rattle.demands.specs.Calls.{State, holds, Call, setCapacity, setBloc
 use Rattle.demands.specs.Calls.{acknowledge, cancel, increment, encoderStream, decoderStream, decodeHeader, readOn, nextOn, lend, numberSaid, Outcome}
 use Rattle.demands.specs.Calls.{replying, putting, looking, inserting, reporting, receiving, calling, LongEnough}
 use Rattle.demands.proofs.Full.{Full, capacity-full, most-full, put-full, begin-full, abandon-full, commit-full, release-full}
-use Rattle.demands.proofs.Full.{increment-full, find-full, insert-full, reports-full, instructions-good}
+use Rattle.demands.proofs.Full.{increment-full, find-full, insert-full}
+use Rattle.demands.proofs.FullCalls.{reports-full, instructions-good}
 use Rattle.demands.proofs.ModelRows.{capacity-row, most-row, put-row, begin-row, abandon-row, commit-row, release-row}
 use Rattle.demands.proofs.ModelRows.{increment-row, find-row, insert-row, applied-row, run-row}
 use Rattle.demands.proofs.Rows.{Row, instruction-row, report-row}
