@@ -1,7 +1,7 @@
 -- Any sequence of calls on two tables whose live strings are equal. Assumes nothing.
-use mathlib.Core.Path.{_≡_, refl, sym, subst, _∙_}
+use mathlib.Core.Path.{_≡_, refl, sym, ap, subst, subst₂, _∙_}
 use mathlib.Core.Bool.{true, false}
-use mathlib.Core.List.{List, [], _∷_}
+use mathlib.Core.List.{List, [], _∷_, map}
 use Prim.Native.Nat.{ℕ, _+_, _≤_}
 use Rattle.arena.specs.Ring.{longEnough}
 use Rattle.decoder_stream.specs.Reports.{Report, Ready}
@@ -9,8 +9,10 @@ use Rattle.dynamic.specs.Calls.{freshTable}
 use Rattle.dynamic.specs.declared.Table.{Table}
 use Rattle.entries.specs.Entry.{between}
 use Rattle.reorder.specs.Reports.{Reordered, total}
+use Rattle.reorder.specs.Slices.{Slice, reportsIn, receives, handedBytes}
+use Rattle.reorder.proofs.Theorem.{same-calls}
 use Rattle.ring.specs.Ring.{largestCount}
-use Rattle.demands.specs.Calls.{State, holds, Call, called, outcomes, after, AllLongEnough, batch}
+use Rattle.demands.specs.Calls.{State, holds, Call, decoderStream, called, outcomes, after, AllLongEnough, batch}
 use Rattle.demands.specs.Strings.{Alike, same, AlikeCalls, AlikeOutcomes}
 use Rattle.demands.proofs.OneCall.{alike-call}
 use Rattle.demands.proofs.Full.{Full, fresh-full}
@@ -61,14 +63,33 @@ reordered-alike x y f g w xs ys r h =
 -- so any two sequences of calls after it that are given equal inputs come to the same
 pub same-strings-later : (t : Table) → Full t → Ready t → (a b : List ℕ) → Alike (holds t a) (holds t b) → (xs ys : List Report)
     → Reordered xs ys → t .known + total xs ≤ largestCount
-    → (cs ds : List Call) → AlikeCalls (after (holds t a) (batch xs)) cs ds
-    → AlikeOutcomes (outcomes (after (holds t a) (batch xs)) cs) (outcomes (after (holds t b) (batch ys)) ds)
-same-strings-later t f g a b w xs ys r h cs ds q =
+    → (later other : List Call) → AlikeCalls (after (holds t a) (batch xs)) later other
+    → AlikeOutcomes (outcomes (after (holds t a) (batch xs)) later) (outcomes (after (holds t b) (batch ys)) other)
+same-strings-later t f g a b w xs ys r h later other q =
     alike-calls (after (holds t a) (batch xs)) (after (holds t b) (batch ys)) (after-full (holds t a) f (batch xs))
-    (reordered-alike (holds t a) (holds t b) f g w xs ys r h) cs ds q
+    (reordered-alike (holds t a) (holds t b) f g w xs ys r h) later other q
+
+-- the same where each report came as bytes, in a call on the decoder stream of its own
+abbrev onStream : List Slice → List Call
+onStream bs = map (λ (b : Slice). decoderStream (b .bytes)) bs
+
+bytes-leave : (bs : List Slice) (t : Table) (a : List ℕ) → after (holds t a) (onStream bs) ≡ holds (handedBytes t bs .state) a
+bytes-leave [] t a = refl
+bytes-leave (b ∷ bs) t a = bytes-leave bs (receives t b .state) a
+
+pub same-strings-after-bytes : (t : Table) → Full t → Ready t → (a b : List ℕ) → Alike (holds t a) (holds t b) → (bs cs : List Slice)
+    → Reordered (reportsIn bs) (reportsIn cs) → t .known + total (reportsIn bs) ≤ largestCount
+    → (later other : List Call) → AlikeCalls (holds (handedBytes t bs .state) a) later other
+    → AlikeOutcomes (outcomes (holds (handedBytes t bs .state) a) later) (outcomes (holds (handedBytes t cs .state) b) other)
+same-strings-after-bytes t f g a b w bs cs r h later other q =
+    let x = holds t a in
+    let left = alike-after x (holds t b) f w (onStream cs) (onStream cs) (itself x (onStream cs)) in
+    let one = bytes-leave cs t a ∙ ap (λ (u : Table). holds u a) (sym (same-calls t g bs cs r h .outcome .runs .states)) in
+    alike-calls _ _ (subst (λ (z : State). Full (z .table)) (bytes-leave bs t a) (after-full x f (onStream bs)))
+    (subst₂ Alike one (bytes-leave cs t b) left) later other q
 
 -- two fresh tables are alike whatever their arenas hold: no entry is live
-fresh-alike : (a b : List ℕ) → longEnough a ≡ true → longEnough b ≡ true → Alike (holds freshTable a) (holds freshTable b)
+pub fresh-alike : (a b : List ℕ) → longEnough a ≡ true → longEnough b ≡ true → Alike (holds freshTable a) (holds freshTable b)
 unfolding freshTable between
 fresh-alike a b l m = record { table = refl; long = l ∙ sym m; strings = refl }
 
@@ -77,13 +98,13 @@ pub ours-reordered-strings : (a b : List ℕ) → longEnough a ≡ true → long
     → (first second : List Call) → AllLongEnough first → AlikeCalls (holds freshTable a) first second
     → after (holds freshTable a) first .table .active ≡ false → (xs ys : List Report) → Reordered xs ys
     → after (holds freshTable a) first .table .known + total xs ≤ largestCount
-    → (cs ds : List Call) → AlikeCalls (after (after (holds freshTable a) first) (batch xs)) cs ds
-    → AlikeOutcomes (outcomes (after (after (holds freshTable a) first) (batch xs)) cs)
-    (outcomes (after (after (holds freshTable b) second) (batch ys)) ds)
-ours-reordered-strings a b l m first second enough p e xs ys r h cs ds q =
+    → (later other : List Call) → AlikeCalls (after (after (holds freshTable a) first) (batch xs)) later other
+    → AlikeOutcomes (outcomes (after (after (holds freshTable a) first) (batch xs)) later)
+    (outcomes (after (after (holds freshTable b) second) (batch ys)) other)
+ours-reordered-strings a b l m first second enough p e xs ys r h later other q =
     let x = after (holds freshTable a) first in
     let y = after (holds freshTable b) second in
     let f = after-full (holds freshTable a) fresh-full first in
     let w = alike-after (holds freshTable a) (holds freshTable b) fresh-full (fresh-alike a b l m) first second p in
     alike-calls (after x (batch xs)) (after y (batch ys)) (after-full x f (batch xs))
-    (reordered-alike x y f (ours-is-ready a l first enough e) w xs ys r h) cs ds q
+    (reordered-alike x y f (ours-is-ready a l first enough e) w xs ys r h) later other q
