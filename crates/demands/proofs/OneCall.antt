@@ -12,23 +12,20 @@ use Rattle.decoder.specs.Section as section
 use Rattle.decoder.specs.declared.Cursor.{Cursor}
 use Rattle.decoder.specs.declared.Line.{Line}
 use Rattle.dynamic.specs.Calls as calls
-use Rattle.dynamic.specs.Promise.{Puts}
-use Rattle.dynamic.specs.Record.{view, sound, usable, lowestUsed}
+use Rattle.dynamic.specs.Record.{view, sound, usable}
 use Rattle.dynamic.specs.declared.Inserting.{Inserting}
 use Rattle.dynamic.specs.declared.Looked.{Looked}
 use Rattle.dynamic.specs.declared.Replied.{Replied}
 use Rattle.dynamic.specs.declared.Table.{Table}
 use Rattle.dynamic.proofs.Insertions.{inserts}
 use Rattle.dynamic.proofs.Made.{same-bytes}
-use Rattle.dynamic.proofs.Putting.{puts-open, puts-pushed}
 use Rattle.encoder_stream.specs.Stream as stream
 use Rattle.field.specs.Field.{Field}
 use Rattle.model.specs.Drop as model-table
 use Rattle.model.specs.Insert as model-insert
 use Rattle.model.specs.Table as model
-use Rattle.ring.specs.Ring.{fieldsOf, pushing, bytesAfter, placedBytes}
+use Rattle.ring.specs.Ring.{fieldsOf, bytesAfter}
 use Rattle.ring.specs.declared.Ring.{Ring}
-use Rattle.ring.specs.declared.Source.the-variants.{Given}
 use Rattle.running.specs.Run.{Ended}
 use Rattle.demands.specs.Calls.{State, holds, Call, setCapacity, setBlockedMaximum, put, find, insert, begin, commit, abandon}
 use Rattle.demands.specs.Calls.{acknowledge, cancel, increment, encoderStream, decoderStream, decodeHeader, readOn, nextOn, lend}
@@ -38,6 +35,7 @@ use Rattle.demands.specs.Strings.{Alike, AlikeCall, same, lent, AlikeOut
 use Rattle.demands.proofs.AlikeStream.{receiving-alike}
 use Rattle.demands.proofs.Arenas.{same-put, same-find, same-insert, same-line, same-bytes as same-line-bytes, same-section}
 use Rattle.demands.proofs.Full.{Full}
+use Rattle.demands.proofs.Steps.{puts}
 use Rattle.demands.proofs.Untouched.{Same, capacity-same, most-same, begin-same, abandon-same, commit-same, release-same}
 use Rattle.demands.proofs.Untouched.{increment-same, find-same, reports-same}
 
@@ -54,27 +52,12 @@ view-fields : (t u : Table) (a b : List ℕ) → view t a ≡ view u b → field
 unfolding view
 view-fields t u a b e = ap (λ (m : model.Table). m .fields) e
 
--- what a put leaves is what it leaves in the model
 module _ (t : Table) (f : Full t) (a n v : List ℕ) (h : usable t a ≡ true) where
   abbrev new : Field
   new = record { name = n; value = v }
 
   put-shown : view (calls.put t a n v .table) (calls.bytesAfter t (calls.put t a n v .table) a n v) ≡ model-table.put (view t a) new .next
-  put-shown = go (t .active) refl
-    where
-      by : (b : List ℕ) (r : Replied) → Puts t a b (calls.put t a n v) r n v
-          → view (calls.put t a n v .table) (calls.bytesAfter t (calls.put t a n v .table) a n v) ≡ model-table.put (view t a) new .next
-      by b r w =
-          ap (λ (x : Replied). view (x .table) (calls.bytesAfter t (x .table) a n v)) (sym (w .next))
-          ∙ ap (view (r .table)) (sym (w .bytes)) ∙ ap (λ (s : model.Step _). s .next) (w .model h)
-
-      go : (on : Bool) → t .active ≡ on
-          → view (calls.put t a n v .table) (calls.bytesAfter t (calls.put t a n v .table) a n v) ≡ model-table.put (view t a) new .next
-      go true e = by a _ (puts-open t a n v refl h e)
-      go false e =
-          let p = pushing (t .ring) a (lowestUsed t) Given n v in
-          let b = bytesAfter (p .push) a (placedBytes (t .ring) a Given n v) in
-          by b (calls.putBy t p) (puts-pushed t a n v h e (f .ring) b p (record { next = refl; bytes = refl }) {r = calls.putBy t p} refl)
+  put-shown = ap (λ (s : model.Step _). s .next) (puts t f a n v h .model h)
 
   insert-shown : view (calls.insert t a n v .table) (calls.bytesAfter t (calls.insert t a n v .table) a n v)
       ≡ model-insert.insert (view t a) new .next

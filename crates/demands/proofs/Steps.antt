@@ -74,6 +74,26 @@ told-row (done d) n p = go (eqb n 0) (leb n stream.mostInserts)
     go false false = record { not-22 = λ e. omega arith }
 told-row (refused r) n p = record { not-22 = p .not-22 }
 
+-- a put keeps its promise
+pub puts : (t : Table) → Full t → (a n v : List ℕ) → usable t a ≡ true
+    → Puts t a (calls.bytesAfter t (calls.put t a n v .table) a n v) (calls.put t a n v) (calls.put t a n v) n v
+puts t f a n v h = go (t .active) refl
+  where
+    exact : Replied
+    exact = calls.put t a n v
+
+    settled : (b : List ℕ) (r : Replied) → Puts t a b exact r n v → Puts t a (calls.bytesAfter t (exact .table) a n v) exact exact n v
+    settled b r w =
+        subst (λ (z : Replied). Puts t a (calls.bytesAfter t (z .table) a n v) exact z n v) (w .next)
+        (subst (λ (c : List ℕ). Puts t a c exact r n v) (w .bytes) w)
+
+    go : (on : Bool) → t .active ≡ on → Puts t a (calls.bytesAfter t (exact .table) a n v) exact exact n v
+    go true e = settled a _ (puts-open t a n v refl h e)
+    go false e =
+        let p = pushing (t .ring) a (lowestUsed t) Given n v in
+        let b = bytesAfter (p .push) a (placedBytes (t .ring) a Given n v) in
+        settled b (calls.putBy t p) (puts-pushed t a n v h e (f .ring) b p (record { next = refl; bytes = refl }) {r = calls.putBy t p} refl)
+
 module _ (t : Table) (a : List ℕ) (k : Kept (holds t a)) where
   rules : sound t ≡ true
   rules = and-left (sound t) _ (k .usable)
@@ -93,31 +113,14 @@ module _ (t : Table) (a : List ℕ) (k : Kept (holds t a)) where
   -- ---- the calls with an arena
 
   module _ (n v : List ℕ) where
-    puts-fine : (b : List ℕ) (r : Replied) → Puts t a b (calls.put t a n v) r n v → Fine (putting t a n v (calls.put t a n v))
-    puts-fine b r w =
-        let same : r .table ≡ calls.put t a n v .table = ap (λ (x : Replied). x .table) (w .next) in
-        let there : usable (r .table) (calls.bytesAfter t (r .table) a n v) ≡ true =
-        ap (usable (r .table)) (sym (w .bytes)) ∙ w .kept (k .usable) in
-        record {
-          kept = record {
-            usable = subst (λ (u : Table). usable u (calls.bytesAfter t u a n v) ≡ true) same there;
-            full = put-full t (k .full) a n v;
-          };
-          not-22 = λ e. put-row (view t a) (record { name = n; value = v }) .not-22
-              (sym (ap (λ (s : model.Step Done). answerNumber (s .answer)) (w .model (k .usable)))
-              ∙ ap (λ (x : Replied). answerNumber (replied (x .reply))) (w .next) ∙ e);
-        }
-
     put-fine : Fine (putting t a n v (calls.put t a n v))
-    put-fine = go (t .active) refl
-      where
-        go : (on : Bool) → t .active ≡ on → Fine (putting t a n v (calls.put t a n v))
-        go true e = puts-fine a _ (puts-open t a n v refl (k .usable) e)
-        go false e =
-            let p = pushing (t .ring) a (lowestUsed t) Given n v in
-            let b = bytesAfter (p .push) a (placedBytes (t .ring) a Given n v) in
-            puts-fine b (calls.putBy t p)
-            (puts-pushed t a n v (k .usable) e (k .full .ring) b p (record { next = refl; bytes = refl }) {r = calls.putBy t p} refl)
+    put-fine =
+        let w = puts t (k .full) a n v (k .usable) in
+        record {
+          kept = record { usable = w .kept (k .usable); full = put-full t (k .full) a n v };
+          not-22 = λ e. put-row (view t a) (record { name = n; value = v }) .not-22
+              (sym (ap (λ (s : model.Step Done). answerNumber (s .answer)) (w .model (k .usable))) ∙ e);
+        }
 
     find-fine : Fine (looking a (calls.find t a n v))
     find-fine =
