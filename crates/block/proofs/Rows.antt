@@ -26,7 +26,7 @@ use Rattle.shapes.specs.Shapes.{valueWidth, textAfter, textsAt}
 use Rattle.block.specs.Lines.{widthOf, indexedLine, namedLine, literalLine, lineOf, lineAt}
 
 -- an answer of the rows 0 to 3
-abbrev Row : {A : Type 0} → Answer A → Type 0
+abbrev pub Row : {A : Type 0} → Answer A → Type 0
 Row x = answerNumber x ≤ 3
 
 row-cond : {A : Type 0} (t : Bool) (x y : Answer A) → Row x → Row y → Row (cond t x y)
@@ -51,7 +51,7 @@ groups-row zero s f at m i = omega arith
 groups-row (suc k) [] f at m i = omega arith
 groups-row (suc k) (b ∷ s) f at m i = row-cond (ltb b 128) _ _ (omega arith) (groups-row k s f (at + 1) (m + 7) (i + b % 128 * 2 ^ m))
 
-from-row : (n : ℕ) (s : List ℕ) (at : ℕ) → Row (intFrom n s at)
+pub from-row : (n : ℕ) (s : List ℕ) (at : ℕ) → Row (intFrom n s at)
 unfolding intFrom
 from-row n [] at = omega arith
 from-row n (b ∷ s) at = row-cond (ltb (b % 2 ^ n) (2 ^ n - 1)) _ _ (omega arith) (groups-row 9 s (b / 2 ^ n) (at + 1) 0 (2 ^ n - 1))
@@ -60,7 +60,7 @@ module _ (s : List ℕ) (at n : ℕ) (low : 1 ≤ n) (high : n ≤ 7) where
   int-row : Row (intAt s at n)
   int-row = row-past (ltb n 1) _ _ (le-ltb n 1 low) (row-past (ltb 8 n) _ _ (le-ltb 8 n (omega arith)) (from-row n (drop at s) at))
 
-  text-row : Row (textAt s at n)
+  pub text-row : Row (textAt s at n)
   unfolding textAt
   text-row =
       row-past (ltb n 1) _ _ (le-ltb n 1 low)
@@ -69,7 +69,7 @@ module _ (s : List ℕ) (at n : ℕ) (low : 1 ≤ n) (high : n ≤ 7) where
       (row-cond (eqb (hBit n (getD s at 0)) 1) _ _ (omega arith)
       (row-then (intAt s at n) (bytesAfter s) int-row (λ i. row-cond (ltb (length s - i .next) (i .value)) _ _ (omega arith) (omega arith))))))
 
-value-row : (s : List ℕ) (at : ℕ) → Row (textAt s at valueWidth)
+pub value-row : (s : List ℕ) (at : ℕ) → Row (textAt s at valueWidth)
 value-row s at = text-row s at valueWidth (omega arith) (omega arith)
 
 after-row : (s : List ℕ) (x : Answer Integer) → Row x → Row (textAfter s x)

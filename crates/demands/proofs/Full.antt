@@ -6,12 +6,8 @@ use mathlib.Core.Option.{Option, some, none}
 use Prim.Native.Nat.{ℕ, _+_, _-_}
 use lib.Dec.{ltb, leb}
 use lib.ListN.{length, getD, take, length-set, length-replicate}
-use Rattle.answers.specs.Answer.{refused}
 use Rattle.answers.specs.declared.Refusal.{Refusal}
-use Rattle.answers.specs.declared.Refusal.the-variants.{SectionOpen, NoSection, BadCall}
 use Rattle.answers.specs.declared.Lookup.the-variants.{Static}
-use Rattle.decoder_stream.specs.Reports.{Report, acknowledgement, cancellation, increment as counting, called, takes, Ready, reportAt, receiving}
-use Rattle.decoder_stream.proofs.Receiving.{called-ready}
 use Rattle.dynamic.specs.Calls as calls
 use Rattle.dynamic.specs.Record.{sound, usable, lowestUsed}
 use Rattle.dynamic.specs.declared.Inserting.{Inserting}
@@ -19,20 +15,14 @@ use Rattle.dynamic.specs.declared.Looked.{Looked}
 use Rattle.dynamic.specs.declared.Replied.{Replied}
 use Rattle.dynamic.specs.declared.Table.{Table}
 use Rattle.dynamic.proofs.Sound.{facts}
-use Rattle.encoder_stream.specs.Entries.{applied, appliedIn}
-use Rattle.encoder_stream.specs.Stream as stream
-use Rattle.encoder_stream.proofs.Modelled.{viewed, Good, shows}
 use Rattle.encoder_stream.proofs.Sources.{arrays-kept, arrays-cut}
 use Rattle.entries.specs.declared.Room.{Room}
-use Rattle.instructions.specs.Instruction.{instructionAt}
 use Rattle.model.specs.Bounds.{sectionEntries, queuePlaces, blockedValues, blockedSections, entryUses}
 use Rattle.model.specs.Insert.{Origin, equalEntry, staticName, namedEntry, plain, orElse}
 use Rattle.ring.specs.Ring.{largestCount, pushing, cutting, roomFor}
 use Rattle.ring.specs.declared.Ring.{Ring}
 use Rattle.ring.specs.declared.Source.the-variants.{Given}
 use Rattle.ring.proofs.Keeping.{Arrays}
-use Rattle.running.specs.Run.{ends, runAll}
-use Rattle.running.proofs.Run.{run-good}
 use Rattle.static_table.specs.Static.{lowestName}
 use Rattle.tracking.specs.Queue.{pushing as queueing, releasing}
 use Rattle.tracking.specs.Uses.{noHeld, noting, placeOf}
@@ -44,6 +34,7 @@ use Rattle.tracking.specs.declared.Queued.{Queued}
 use Rattle.tracking.specs.declared.Section.{Section}
 use Rattle.tracking.proofs.Blocked.{blocking-values, let-go-length}
 use Rattle.tracking.proofs.Sections.{released-places, pushed-places}
+use Rattle.demands.proofs.Tests.{either, when-closed, when-open}
 
 -- the arrays of a record have all their places, as those of every record of the program have
 pub record Full (t : Table) : Type 0 where
@@ -56,24 +47,20 @@ pub fresh-full : Full calls.freshTable
 unfolding calls.freshTable
 fresh-full = record { ring = record { starts = refl; names = refl; values = refl }; queue = refl; waiting = refl; uses = refl }
 
-either : {A : Type 0} (f : A → Table) (b : Bool) (x y : A) → Full (f x) → Full (f y) → Full (f (cond b x y))
-either f true x y p q = p
-either f false x y p q = q
-
 -- ---- one more use
 
-length-either : (m : ℕ) (b : Bool) (x y : Noted) → length (x .uses) ≡ m → length (y .uses) ≡ m → length (cond b x y .uses) ≡ m
-length-either m true x y p q = p
-length-either m false x y p q = q
+-- so many places for uses
+abbrev Uses : ℕ → Noted → Type 0
+Uses m r = length (r .uses) ≡ m
 
 length-noting : (us : List HeldUse) (n x : ℕ) → length (noting us n x .uses) ≡ length us
 unfolding noting
 length-noting us n x =
     let i = placeOf x (take n us) in
-    length-either (length us) (leb n sectionEntries) _ _
-    (length-either (length us) (ltb i n) _ _
-    (length-either (length us) (ltb (getD us i noHeld .count) entryUses) _ _ (length-set us _ _) refl)
-    (length-either (length us) (ltb n sectionEntries) _ _ (length-set us _ _) refl))
+    either (Uses (length us)) (leb n sectionEntries) _ _
+    (either (Uses (length us)) (ltb i n) _ _
+    (either (Uses (length us)) (ltb (getD us i noHeld .count) entryUses) _ _ (length-set us _ _) refl)
+    (either (Uses (length us)) (ltb n sectionEntries) _ _ (length-set us _ _) refl))
     refl
 
 length-noted : (s : Section) (x : ℕ) (w : Origin) → length (calls.notedFor s x w .uses) ≡ length (s .uses)
@@ -84,7 +71,7 @@ length-noted s x w = go w
 
     also : (y : ℕ) → length (calls.noteAlso s y (calls.notedIn s x) .uses) ≡ length (s .uses)
     also y =
-        length-either (length (s .uses)) (calls.notedIn s x .fits) _ _
+        either (Uses (length (s .uses))) (calls.notedIn s x .fits) _ _
         (length-noting (calls.notedIn s x .uses) (calls.notedIn s x .used) (y - s .from) ∙ one) one
 
     go : (w : Origin) → length (calls.notedFor s x w .uses) ≡ length (s .uses)
@@ -95,24 +82,17 @@ length-noted s x w = go w
 
 -- ---- the calls
 
+-- of what a call made of the record
+abbrev FullReplied : Replied → Type 0
+FullReplied r = Full (r .table)
+
+abbrev FullLooked : Looked → Type 0
+FullLooked r = Full (r .table)
+
+abbrev FullInserting : Inserting → Type 0
+FullInserting r = Full (r .table)
+
 module _ (t : Table) (p : Full t) where
-  -- 22, then 18 or 19, leave the record
-  closed-full : (r : Replied) → (sound t ≡ true → Full (r .table)) → Full (calls.whenClosed t r .table)
-  closed-full r f = go (sound t) (t .active) f
-    where
-      go : (b on : Bool) → (b ≡ true → Full (r .table)) → Full (cond b (cond on (calls.no t SectionOpen) r) (calls.no t BadCall) .table)
-      go true true f = p
-      go true false f = f refl
-      go false on f = p
-
-  open-full : (r : Replied) → (sound t ≡ true → Full (r .table)) → Full (calls.whenOpen t r .table)
-  open-full r f = go (sound t) (t .active) f
-    where
-      go : (b on : Bool) → (b ≡ true → Full (r .table)) → Full (cond b (cond on r (calls.no t NoSection)) (calls.no t BadCall) .table)
-      go true true f = f refl
-      go true false f = p
-      go false on f = p
-
   with-ring : (r : Ring) → Arrays r → Full (calls.withRing r t)
   with-ring r w = record { ring = w; queue = p .queue; waiting = p .waiting; uses = p .uses }
 
@@ -121,42 +101,42 @@ module _ (t : Table) (p : Full t) where
 
   pub capacity-full : (c : ℕ) → Full (calls.setCapacity t c .table)
   unfolding calls.setCapacity
-  capacity-full c = closed-full (calls.cutUnless t c (calls.capacityAnswer c)) (λ h. go (calls.capacityAnswer c))
+  capacity-full c = when-closed Full t p (calls.cutUnless t c (calls.capacityAnswer c)) (λ h. go (calls.capacityAnswer c))
     where
       go : (o : Option Refusal) → Full (calls.cutUnless t c o .table)
       go (some r) = p
       go none =
           let k = cutting (t .ring) (lowestUsed t) c in
-          either (λ (r : Replied). r .table) (k .made) _ _ (with-ring (k .ring) (arrays-cut (t .ring) (lowestUsed t) c (p .ring))) p
+          either FullReplied (k .made) _ _ (with-ring (k .ring) (arrays-cut (t .ring) (lowestUsed t) c (p .ring))) p
 
   pub most-full : (m : ℕ) → Full (calls.setMost t m .table)
   unfolding calls.setMost
   most-full m =
-      closed-full _ (λ h. either (λ (r : Replied). r .table) (leb blockedSections m) _ _ p
+      when-closed Full t p _ (λ h. either FullReplied (leb blockedSections m) _ _ p
       (record { ring = p .ring; queue = p .queue; waiting = p .waiting; uses = p .uses }))
 
   pub put-full : (a n v : List ℕ) → Full (calls.put t a n v .table)
   unfolding calls.put
   put-full a n v =
-      either (λ (r : Replied). r .table) (usable t a) _ _
-      (either (λ (r : Replied). r .table) (t .active) _ _ p
+      either FullReplied (usable t a) _ _
+      (either FullReplied (t .active) _ _ p
       (with-ring _ (arrays-kept (t .ring) a (lowestUsed t) Given n v (p .ring)))) p
 
   pub begin-full : (stream : ℕ) → Full (calls.begin t stream .table)
   unfolding calls.begin
   begin-full stream =
-      closed-full _ (λ h. record { ring = p .ring; queue = p .queue; waiting = p .waiting; uses = length-replicate sectionEntries noHeld })
+      when-closed Full t p _ (λ h. record { ring = p .ring; queue = p .queue; waiting = p .waiting; uses = length-replicate sectionEntries noHeld })
 
   pub abandon-full : Full (calls.abandon t .table)
   unfolding calls.abandon
-  abandon-full = open-full _ (λ h. record { ring = p .ring; queue = p .queue; waiting = p .waiting; uses = p .uses })
+  abandon-full = when-open Full t p _ (λ h. record { ring = p .ring; queue = p .queue; waiting = p .waiting; uses = p .uses })
 
   pub commit-full : (largest : ℕ) → Full (calls.commit t largest .table)
   unfolding calls.commit
   commit-full largest =
-      open-full _ (λ h. either (λ (r : Replied). r .table) (ltb (t .ring .inserted) largest) _ _ p
-      (either (λ (r : Replied). r .table) (q .made) _ _
-      (either (λ (r : Replied). r .table) (w .fits) _ _ (next h) p) p))
+      when-open Full t p _ (λ h. either FullReplied (ltb (t .ring .inserted) largest) _ _ p
+      (either FullReplied (q .made) _ _
+      (either FullReplied (w .fits) _ _ (next h) p) p))
     where
       q : Queued
       q = queueing (t .queue) (t .section)
@@ -181,7 +161,7 @@ module _ (t : Table) (p : Full t) where
   pub release-full : (stream : ℕ) → Full (calls.release t stream .table)
   unfolding calls.release
   release-full stream =
-      closed-full _ (λ h. either (λ (r : Replied). r .table) (releasing (t .queue) stream .made) _ _
+      when-closed Full t p _ (λ h. either FullReplied (releasing (t .queue) stream .made) _ _
       (record {
         ring = p .ring;
         queue = released-places (t .queue) (facts t h .queued) (p .queue) stream;
@@ -192,7 +172,7 @@ module _ (t : Table) (p : Full t) where
   pub increment-full : (n : ℕ) → Full (calls.increment t n .table)
   unfolding calls.increment
   increment-full n =
-      closed-full _ (λ h. either (λ (r : Replied). r .table) (ltb largestCount (t .known + n)) _ _ p
+      when-closed Full t p _ (λ h. either FullReplied (ltb largestCount (t .known + n)) _ _ p
       (record {
         ring = p .ring;
         queue = p .queue;
@@ -203,14 +183,14 @@ module _ (t : Table) (p : Full t) where
   pub find-full : (a n v : List ℕ) → Full (calls.find t a n v .table)
   unfolding calls.find
   find-full a n v =
-      either (λ (r : Looked). r .table) (usable t a) _ _
-      (either (λ (r : Looked). r .table) (t .active) _ _ (go (calls.latestOf t a n v true)) p) p
+      either FullLooked (usable t a) _ _
+      (either FullLooked (t .active) _ _ (go (calls.latestOf t a n v true)) p) p
     where
       go : (o : Option ℕ) → Full (calls.foundAt t o .table)
       go none = p
       go (some k) =
           let x = t .ring .dropped + k + 1 in
-          either (λ (r : Looked). r .table) (calls.notedIn (t .section) x .fits) _ _
+          either FullLooked (calls.notedIn (t .section) x .fits) _ _
           (with-noted (calls.notedIn (t .section) x) (length-noting _ _ _)) p
 
   module _ (a n v : List ℕ) where
@@ -222,7 +202,7 @@ module _ (t : Table) (p : Full t) where
         go none = p
         go (some k) =
             let x = t .ring .dropped + k + 1 in
-            either (λ (r : Inserting). r .table) (calls.notedIn (t .section) x .fits) _ _
+            either FullInserting (calls.notedIn (t .section) x .fits) _ _
             (with-noted (calls.notedIn (t .section) x) (length-noting _ _ _)) p
 
         static : (o : Option ℕ)
@@ -236,8 +216,8 @@ module _ (t : Table) (p : Full t) where
         let w = calls.originAfter (t .ring) (t .ring .dropped + r .count) a n v in
         let u = calls.notedFor (t .section) (t .ring .inserted + 1) w in
         let q = pushing (t .ring) a (lowestUsed t) Given n v in
-        either (λ (r : Inserting). r .table) (u .fits) _ _
-        (either (λ (r : Inserting). r .table) (ltb (t .ring .inserted) largestCount) _ _
+        either FullInserting (u .fits) _ _
+        (either FullInserting (ltb (t .ring .inserted) largestCount) _ _
         (record {
           ring = arrays-kept (t .ring) a (lowestUsed t) Given n v (p .ring);
           queue = p .queue;
@@ -249,53 +229,7 @@ module _ (t : Table) (p : Full t) where
     unfolding calls.insert
     insert-full =
         let r = roomFor (t .ring) (lowestUsed t) (length n) (length v) in
-        either (λ (r : Inserting). r .table) (usable t a) _ _
-        (either (λ (r : Inserting). r .table) (t .active) _ _
-        (either (λ (r : Inserting). r .table) (leb (t .most) (t .waiting .total)) _ _ named-full
-        (either (λ (r : Inserting). r .table) (r .made) _ _ (made-full r) named-full)) p) p
-
--- ---- the streams
-
--- a table that reports are applied to, with its arrays
-record Reports (t : Table) : Type 0 where
-  ready : Ready t
-  full : Full t
-
-called-full : (t : Table) → Reports t → (w : Report) → Reports (called t w .table)
-called-full t g w = record { ready = called-ready t (g .ready) w; full = go w }
-  where
-    go : (w : Report) → Full (called t w .table)
-    go (acknowledgement stream) = release-full t (g .full) stream
-    go (cancellation stream) = release-full t (g .full) stream
-    go (counting n) = increment-full t (g .full) n
-
-pub reports-full : (t : Table) → Full t → (s : List ℕ) → Full (receiving t s .state)
-unfolding receiving
-reports-full t p s = go (sound t) (t .active) refl refl
-  where
-    go : (b on : Bool) → sound t ≡ b → t .active ≡ on
-        → Full (cond b (cond on (ends t 0 (refused SectionOpen)) (runAll reportAt takes s t)) (ends t 0 (refused BadCall)) .state)
-    go true true h e = p
-    go true false h e =
-        let g : Reports t = record { ready = record { rules = h; closed = e; places = p .queue; values = p .waiting }; full = p } in
-        run-good (λ (u : Table). u) Reports takes takes
-        (record { state = λ x g i. refl; answer = λ x g i. refl; good = called-full }) reportAt s (length s) 0 t g .full
-    go false on h e = p
-
-pub instructions-good : (t : Table) → Full t → (a s : List ℕ) (room : ℕ) → usable t a ≡ true → Good t (stream.receiving t a s room .state)
-unfolding stream.receiving
-instructions-good t p a s room h = rw h (go (leb stream.incrementRoom room) (t .active) refl)
-  where
-    first : Good t (stream.heldBy t a)
-    first = record { usable = h; arrays = p .ring }
-
-    go : (b on : Bool) → t .active ≡ on
-        → Good t
-        (cond b
-        (cond on (ends (stream.heldBy t a) 0 (refused SectionOpen)) (runAll instructionAt (applied (lowestUsed t)) s (stream.heldBy t a)))
-        (ends (stream.heldBy t a) 0 (refused BadCall)) .state)
-    go true true e = first
-    go true false e =
-        run-good (viewed t) (Good t) (applied (lowestUsed t)) appliedIn (shows t e (lowestUsed t) refl) instructionAt s (length s) 0
-        (stream.heldBy t a) first
-    go false on e = first
+        either FullInserting (usable t a) _ _
+        (either FullInserting (t .active) _ _
+        (either FullInserting (leb (t .most) (t .waiting .total)) _ _ named-full
+        (either FullInserting (r .made) _ _ (made-full r) named-full)) p) p

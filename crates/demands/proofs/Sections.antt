@@ -30,7 +30,7 @@ use Rattle.ring.specs.Ring.{largestCount}
 use Rattle.ring.proofs.Keeping.{kept}
 use Rattle.vas.specs.Vas.{isLive}
 use Rattle.demands.proofs.ModelRows.{named-row}
-use Rattle.demands.proofs.Rows.{Row, said, cond-row, past-row, then-row, int-row}
+use Rattle.demands.proofs.Rows.{Row, said, cond-row, past-row, then-row, low-row, int-row}
 
 met-row : {A : Type 0} (b : Bool) (x y : Answer A) → b ≡ true → Row x → Row (cond b x y)
 met-row b x y e p = rw e p
@@ -70,7 +70,7 @@ entry-row t base (Reference.PostBase i) =
 field-row : (t : Live) (base : ℕ) (s : List ℕ) (at : ℕ) → Row (lineOn t base s at)
 unfolding lineOn
 field-row t base s at =
-    then-row (lineAt s at) (fieldOfLine (entryOn t base) s) (record { not-22 = λ e. omega (arith, line-row s at) }) go
+    then-row (lineAt s at) (fieldOfLine (entryOn t base) s) (low-row (lineAt s at) (line-row s at)) go
   where
     go : (l : FieldLine) → Row (fieldOfLine (entryOn t base) s l)
     go (indexed r e) = then-row (entryOn t base r) _ (entry-row t base r) (λ f. said _)

@@ -40,8 +40,8 @@ use Rattle.running.proofs.Run.{run-shown, run-good}
 use Rattle.demands.specs.Calls.{State, holds, Call, setCapacity, setBlockedMaximum, put, find, insert, begin, commit, abandon}
 use Rattle.demands.specs.Calls.{acknowledge, cancel, increment, encoderStream, decoderStream, decodeHeader, readOn, nextOn, lend, numberSaid, Outcome}
 use Rattle.demands.specs.Calls.{replying, putting, looking, inserting, reporting, receiving, calling, LongEnough}
-use Rattle.demands.proofs.Full.{Full, capacity-full, most-full, put-full, begin-full, abandon-full, commit-full, release-full}
-use Rattle.demands.proofs.Full.{increment-full, find-full, insert-full, reports-full, instructions-good}
+use Rattle.demands.proofs.Full.{Full}
+use Rattle.demands.proofs.FullCalls.{instructions-good, call-full}
 use Rattle.demands.proofs.ModelRows.{capacity-row, most-row, put-row, begin-row, abandon-row, commit-row, release-row}
 use Rattle.demands.proofs.ModelRows.{increment-row, find-row, insert-row, applied-row, run-row}
 use Rattle.demands.proofs.Rows.{Row, instruction-row, report-row}
@@ -55,6 +55,11 @@ pub record Kept (x : State) : Type 0 where
 pub record Fine (o : Outcome) : Type 0 where
   pub kept : Kept (o .state)
   pub not-22 : numberSaid (o .answer) ≡ 22 → ⊥
+
+-- beside the lengths of its arrays
+record Usable (o : Outcome) : Type 0 where
+  usable : usable (o .state .table) (o .state .arena) ≡ true
+  not-22 : numberSaid (o .answer) ≡ 22 → ⊥
 
 -- a table with an open section takes no reports
 open-reports : (t : Table) (s : List ℕ) → sound t ≡ true → t .active ≡ true → ends t 0 (refused SectionOpen) ≡ reports.receiving t s
@@ -73,6 +78,26 @@ told-row (done d) n p = go (eqb n 0) (leb n stream.mostInserts)
     go false false = record { not-22 = λ e. omega arith }
 told-row (refused r) n p = record { not-22 = p .not-22 }
 
+-- a put keeps its promise
+pub puts : (t : Table) → Full t → (a n v : List ℕ) → usable t a ≡ true
+    → Puts t a (calls.bytesAfter t (calls.put t a n v .table) a n v) (calls.put t a n v) (calls.put t a n v) n v
+puts t f a n v h = go (t .active) refl
+  where
+    exact : Replied
+    exact = calls.put t a n v
+
+    settled : (b : List ℕ) (r : Replied) → Puts t a b exact r n v → Puts t a (calls.bytesAfter t (exact .table) a n v) exact exact n v
+    settled b r w =
+        subst (λ (z : Replied). Puts t a (calls.bytesAfter t (z .table) a n v) exact z n v) (w .next)
+        (subst (λ (c : List ℕ). Puts t a c exact r n v) (w .bytes) w)
+
+    go : (on : Bool) → t .active ≡ on → Puts t a (calls.bytesAfter t (exact .table) a n v) exact exact n v
+    go true e = settled a _ (puts-open t a n v refl h e)
+    go false e =
+        let p = pushing (t .ring) a (lowestUsed t) Given n v in
+        let b = bytesAfter (p .push) a (placedBytes (t .ring) a Given n v) in
+        settled b (calls.putBy t p) (puts-pushed t a n v h e (f .ring) b p (record { next = refl; bytes = refl }) {r = calls.putBy t p} refl)
+
 module _ (t : Table) (a : List ℕ) (k : Kept (holds t a)) where
   rules : sound t ≡ true
   rules = and-left (sound t) _ (k .usable)
@@ -81,58 +106,40 @@ module _ (t : Table) (a : List ℕ) (k : Kept (holds t a)) where
   long = and-right (sound t) _ (k .usable)
 
   -- a call that takes no arena, by its promise
-  keeps-fine : (r : Replied) (step : model.Table → model.Step Done) → Keeps t r r step → Full (r .table)
-      → Row (step (view t a) .answer) → Fine (replying a r)
-  keeps-fine r step w full row =
+  keeps-fine : (r : Replied) (step : model.Table → model.Step Done) → Keeps t r r step → Row (step (view t a) .answer) → Usable (replying a r)
+  keeps-fine r step w row =
       record {
-        kept = record { usable = rw (w .kept rules, long); full = full };
+        usable = rw (w .kept rules, long);
         not-22 = λ e. row .not-22 (sym (ap (λ (s : model.Step Done). answerNumber (s .answer)) (w .model rules a)) ∙ e);
       }
 
   -- ---- the calls with an arena
 
   module _ (n v : List ℕ) where
-    puts-fine : (b : List ℕ) (r : Replied) → Puts t a b (calls.put t a n v) r n v → Fine (putting t a n v (calls.put t a n v))
-    puts-fine b r w =
-        let same : r .table ≡ calls.put t a n v .table = ap (λ (x : Replied). x .table) (w .next) in
-        let there : usable (r .table) (calls.bytesAfter t (r .table) a n v) ≡ true =
-        ap (usable (r .table)) (sym (w .bytes)) ∙ w .kept (k .usable) in
+    put-fine : Usable (putting t a n v (calls.put t a n v))
+    put-fine =
+        let w = puts t (k .full) a n v (k .usable) in
         record {
-          kept = record {
-            usable = subst (λ (u : Table). usable u (calls.bytesAfter t u a n v) ≡ true) same there;
-            full = put-full t (k .full) a n v;
-          };
+          usable = w .kept (k .usable);
           not-22 = λ e. put-row (view t a) (record { name = n; value = v }) .not-22
-              (sym (ap (λ (s : model.Step Done). answerNumber (s .answer)) (w .model (k .usable)))
-              ∙ ap (λ (x : Replied). answerNumber (replied (x .reply))) (w .next) ∙ e);
+              (sym (ap (λ (s : model.Step Done). answerNumber (s .answer)) (w .model (k .usable))) ∙ e);
         }
 
-    put-fine : Fine (putting t a n v (calls.put t a n v))
-    put-fine = go (t .active) refl
-      where
-        go : (on : Bool) → t .active ≡ on → Fine (putting t a n v (calls.put t a n v))
-        go true e = puts-fine a _ (puts-open t a n v refl (k .usable) e)
-        go false e =
-            let p = pushing (t .ring) a (lowestUsed t) Given n v in
-            let b = bytesAfter (p .push) a (placedBytes (t .ring) a Given n v) in
-            puts-fine b (calls.putBy t p)
-            (puts-pushed t a n v (k .usable) e (k .full .ring) b p (record { next = refl; bytes = refl }) {r = calls.putBy t p} refl)
-
-    find-fine : Fine (looking a (calls.find t a n v))
+    find-fine : Usable (looking a (calls.find t a n v))
     find-fine =
         let w = finds t a n v (calls.find t a n v) (k .full .uses) refl in
         record {
-          kept = record { usable = w .kept (k .usable); full = find-full t (k .full) a n v };
+          usable = w .kept (k .usable);
           not-22 = λ e. find-row (view t a) (record { name = n; value = v }) .not-22
               (sym (ap (λ (s : model.Step Lookup). answerNumber (s .answer)) (w .model (k .usable))) ∙ e);
         }
 
-    insert-fine : Fine (inserting t a n v (calls.insert t a n v))
+    insert-fine : Usable (inserting t a n v (calls.insert t a n v))
     insert-fine =
         let r = calls.insert t a n v in
         let w = inserts t a (calls.bytesAfter t (r .table) a n v) n v r (record { uses = k .full .uses; arrays = k .full .ring }) refl refl in
         record {
-          kept = record { usable = w .kept (k .usable); full = insert-full t (k .full) a n v };
+          usable = w .kept (k .usable);
           not-22 = λ e. insert-row (view t a) (record { name = n; value = v }) .not-22
               (sym (ap (λ (s : model.Step Insertion). answerNumber (s .answer)) (w .model (k .usable))) ∙ e);
         }
@@ -179,11 +186,11 @@ module _ (t : Table) (a : List ℕ) (k : Kept (holds t a)) where
                   (run-row reports.reportAt reports.takes reports.Ready report-row report-answer called-ready s (length s) 0 t g);
             }
 
-    reports-fine : Fine (reporting a (reports.receiving t s))
+    reports-fine : Usable (reporting a (reports.receiving t s))
     reports-fine =
         let w = reports-are in
         record {
-          kept = record { usable = rw (w .rules, long); full = reports-full t (k .full) s };
+          usable = rw (w .rules, long);
           not-22 = w .answer .not-22;
         }
 
@@ -204,44 +211,44 @@ module _ (t : Table) (a : List ℕ) (k : Kept (holds t a)) where
               let row = run-row instructionAt appliedIn (λ _. Unit {0}) instruction-row (λ u _ i. applied-row u i) (λ _ _ _. tt) s (length s) 0 (view t a) tt in
               record { not-22 = λ x. row .not-22 (sym (ap (λ (z : Ended model.Table). answerNumber (z .answer)) shown) ∙ x) }
 
-      instructions-fine : Fine (receiving t o (stream.received t a s (length o)))
+      instructions-fine : Usable (receiving t o (stream.received t a s (length o)))
       instructions-fine =
           let g = instructions-good t (k .full) a s (length o) (k .usable) in
           record {
-            kept = record {
-              usable = g .usable;
-              full = record { ring = g .arrays; queue = k .full .queue; waiting = k .full .waiting; uses = k .full .uses };
-            };
+            usable = g .usable;
             not-22 = told-row _ _ instructions-answer .not-22;
           }
 
   -- ---- every call
 
+  usable-call : (c : Call) → LongEnough c → Usable (calling t a c)
+  usable-call (setCapacity c) l =
+      keeps-fine _ _ (sets-capacity t (k .full .ring) c refl) (capacity-row (view t a) c)
+  usable-call (setBlockedMaximum m) l = keeps-fine _ _ (sets-most t m refl) (most-row (view t a) m)
+  usable-call (put n v) l = put-fine n v
+  usable-call (find n v) l = find-fine n v
+  usable-call (insert n v) l = insert-fine n v
+  usable-call (begin x) l =
+      keeps-fine _ _ (begin-keeps t x (calls.begin t x) refl) (begin-row (view t a) x)
+  usable-call (commit x) l =
+      keeps-fine _ _ (commit-keeps t x (k .full .waiting) (k .full .queue) (calls.commit t x) refl) (commit-row (view t a) x)
+  usable-call abandon l =
+      keeps-fine _ _ (abandon-keeps t (calls.abandon t) refl) (abandon-row (view t a))
+  usable-call (acknowledge x) l =
+      keeps-fine _ _ (release-keeps t x (calls.release t x) (k .full .queue) refl) (release-row (view t a) x)
+  usable-call (cancel x) l =
+      keeps-fine _ _ (release-keeps t x (calls.release t x) (k .full .queue) refl) (release-row (view t a) x)
+  usable-call (increment n) l =
+      keeps-fine _ _ (increment-keeps t n (calls.increment t n) (k .full .waiting) refl) (increment-row (view t a) n)
+  usable-call (encoderStream s o) l = instructions-fine s o l
+  usable-call (decoderStream s) l = reports-fine s
+  usable-call (decodeHeader s fs o) l = record { usable = k .usable; not-22 = section-tells t a (k .usable) s (λ f. f) fs o .not-22 }
+  usable-call (readOn s fs o) l = record { usable = k .usable; not-22 = section-tells t a (k .usable) s section.numbers fs o .not-22 }
+  usable-call (nextOn s room o c) l = record { usable = k .usable; not-22 = line-tells t a (k .usable) s room (length o) c .not-22 }
+  usable-call (lend b) l =
+      record { usable = rw (rules, l); not-22 = λ e. omega arith }
+
   pub call-fine : (c : Call) → LongEnough c → Fine (calling t a c)
-  call-fine (setCapacity c) l =
-      keeps-fine _ _ (sets-capacity t (k .full .ring) c refl) (capacity-full t (k .full) c) (capacity-row (view t a) c)
-  call-fine (setBlockedMaximum m) l = keeps-fine _ _ (sets-most t m refl) (most-full t (k .full) m) (most-row (view t a) m)
-  call-fine (put n v) l = put-fine n v
-  call-fine (find n v) l = find-fine n v
-  call-fine (insert n v) l = insert-fine n v
-  call-fine (begin x) l =
-      keeps-fine _ _ (begin-keeps t x (calls.begin t x) refl) (begin-full t (k .full) x) (begin-row (view t a) x)
-  call-fine (commit x) l =
-      keeps-fine _ _ (commit-keeps t x (k .full .waiting) (k .full .queue) (calls.commit t x) refl) (commit-full t (k .full) x)
-      (commit-row (view t a) x)
-  call-fine abandon l =
-      keeps-fine _ _ (abandon-keeps t (calls.abandon t) refl) (abandon-full t (k .full)) (abandon-row (view t a))
-  call-fine (acknowledge x) l =
-      keeps-fine _ _ (release-keeps t x (calls.release t x) (k .full .queue) refl) (release-full t (k .full) x) (release-row (view t a) x)
-  call-fine (cancel x) l =
-      keeps-fine _ _ (release-keeps t x (calls.release t x) (k .full .queue) refl) (release-full t (k .full) x) (release-row (view t a) x)
-  call-fine (increment n) l =
-      keeps-fine _ _ (increment-keeps t n (calls.increment t n) (k .full .waiting) refl) (increment-full t (k .full) n)
-      (increment-row (view t a) n)
-  call-fine (encoderStream s o) l = instructions-fine s o l
-  call-fine (decoderStream s) l = reports-fine s
-  call-fine (decodeHeader s fs o) l = record { kept = k; not-22 = section-tells t a (k .usable) s (λ f. f) fs o .not-22 }
-  call-fine (readOn s fs o) l = record { kept = k; not-22 = section-tells t a (k .usable) s section.numbers fs o .not-22 }
-  call-fine (nextOn s room o c) l = record { kept = k; not-22 = line-tells t a (k .usable) s room (length o) c .not-22 }
-  call-fine (lend b) l =
-      record { kept = record { usable = rw (rules, l); full = k .full }; not-22 = λ e. omega arith }
+  call-fine c l =
+      let w = usable-call c l in
+      record { kept = record { usable = w .usable; full = call-full t (k .full) a c }; not-22 = w .not-22 }
