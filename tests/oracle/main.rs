@@ -7,6 +7,7 @@ mod numbers;
 mod ours;
 mod pair;
 mod random;
+mod sample;
 mod script;
 mod shrink;
 mod streams;
@@ -21,7 +22,8 @@ pub fn stop(what: &str) -> ! {
     std::process::exit(2)
 }
 
-const USAGE: &str = "usage: differ REPLAY random SEED STEPS|MINUTESm, differ REPLAY short NAME|all, or differ REPLAY script < SCRIPT";
+const USAGE: &str = "usage: differ REPLAY random SEED STEPS|MINUTESm, differ REPLAY short NAME|all, differ REPLAY sample SEED STEPS, \
+differ REPLAY script < SCRIPT, or differ differences";
 
 /// What a run is given: a number of steps, or of minutes.
 enum Until {
@@ -52,7 +54,7 @@ fn random(program: &str, seed: &str, end: &str) {
     let mut r = random::Random::new(seed);
     let mut told = Instant::now();
     while !is_over(&end, p.steps) {
-        if let Err(f) = random::episode(&mut p, &mut r) {
+        if let Err(f) = random::episode(&mut p, &mut r, |_| ()) {
             fault(program, &p, f);
         }
         if told.elapsed() > Duration::from_secs(20) {
@@ -124,8 +126,12 @@ fn script(program: &str) {
 }
 
 fn main() {
-    // a panic of the crate is an answer, and is told by the step
-    std::panic::set_hook(Box::new(|_| {}));
+    // a panic of the crate is an answer, and is told by the step; one of this program is a fault of its own
+    std::panic::set_hook(Box::new(|p| {
+        if p.location().is_some_and(|l| l.file().starts_with("tests/oracle")) {
+            stop(&p.to_string());
+        }
+    }));
     let args: Vec<String> = std::env::args().skip(1).collect();
     let words: Vec<&str> = args.iter().map(String::as_str).collect();
     match words[..] {
@@ -133,6 +139,10 @@ fn main() {
         [program, "random", seed, end] => random(program, seed, end),
         [program, "short", name] => short(program, name),
         [program, "script"] => script(program),
+        [program, "sample", seed, steps] => match (seed.parse(), steps.parse()) {
+            (Ok(seed), Ok(steps)) => sample::sample(program, seed, steps),
+            _ => stop(USAGE),
+        },
         _ => stop(USAGE),
     }
 }

@@ -161,7 +161,8 @@ pub fn unhex(word: &str) -> Vec<u8> {
     digits.chunks(2).map(|d| value(d[0]) * 16 + value(d[1])).collect()
 }
 
-pub fn seen(line: &str) -> Seen {
+/// None where the ring does not keep its rules.
+pub fn seen(line: &str) -> Option<Seen> {
     let mut w = Words(line.split_ascii_whitespace(), None);
     w.named("0");
     let mut s = Seen { inserted: w.field("inserted"), dropped: w.field("dropped"), size: w.field("size"), ..Seen::default() };
@@ -189,11 +190,17 @@ pub fn seen(line: &str) -> Seen {
             s.queue.push(section);
         }
     }
-    w.named("live");
+    let word = w.next();
+    if word == "unsound" {
+        return None;
+    }
+    if word != "live" {
+        crate::stop(&format!("show: live is wanted, and {word} stands there"));
+    }
     loop {
         let name = w.next();
         if name.is_empty() {
-            return s;
+            return Some(s);
         }
         s.live.push((unhex(name), unhex(w.next())));
     }

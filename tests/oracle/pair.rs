@@ -24,6 +24,17 @@ pub struct Pair {
     pub steps: u64,
     /// The commands since the tables were last fresh.
     pub log: Vec<Command>,
+    /// What the last step came to.
+    pub last: Option<Met>,
+}
+
+/// A call, the number of its answer, and the listed difference that it is, if it is one; and our answer whole.
+#[derive(Clone, PartialEq)]
+pub struct Met {
+    pub op: u8,
+    pub number: u32,
+    pub listed: &'static str,
+    pub line: String,
 }
 
 pub fn is_on_table(o: u8) -> bool {
@@ -44,6 +55,7 @@ impl Pair {
             answers: BTreeMap::new(),
             steps: 0,
             log: Vec::new(),
+            last: None,
         }
     }
 
@@ -63,6 +75,7 @@ impl Pair {
         if let Some(l) = l {
             *self.listed.entry(l.name).or_insert(0) += 1;
         }
+        self.last = Some(Met { op: c.op, number, listed: l.map_or("", |l| l.name), line: ours.into() });
     }
 
     /// Calls that do not hang on each other's answers, sent together.
@@ -77,8 +90,8 @@ impl Pair {
         for c in commands {
             let line = self.ours.hear();
             let judged = if is_shown(c.op) {
-                let after = seen(&self.ours.hear());
-                self.judge(&c, &line, &after)
+                let show = self.ours.hear();
+                self.judge_shown(&c, &line, &show)
             } else {
                 self.alone(&c, &line)
             };
@@ -112,8 +125,7 @@ impl Pair {
             return self.settle(&c, &line, judged);
         }
         let (line, show) = self.ours.ask_and_show(&c);
-        let after = seen(&show);
-        let judged = self.judge(&c, &line, &after);
+        let judged = self.judge_shown(&c, &line, &show);
         self.settle(&c, &line, judged)
     }
 
@@ -127,11 +139,21 @@ impl Pair {
         }
     }
 
+    fn judge_shown(&mut self, c: &Command, ours: &str, show: &str) -> Result<Option<&'static Listed>, String> {
+        match seen(show) {
+            Some(after) => self.judge(c, ours, &after),
+            None => Err("a record that keeps its rules".into()),
+        }
+    }
+
     /// A call on a table: the answers, and then the whole tables.
     fn judge(&mut self, c: &Command, ours: &str, after: &Seen) -> Result<Option<&'static Listed>, String> {
         if c.op == op::COPY {
             self.tables[c.table as usize] = self.tables[c.numbers[0] as usize].clone();
             return if ours == "0" { self.tables_equal(c, after, None) } else { Err("0".into()) };
+        }
+        if c.op == op::SHOW {
+            return self.tables_equal(c, after, None);
         }
         let t = &mut self.tables[c.table as usize];
         let listed = if matches!(c.op, op::ON_ENCODER_RECV | op::ON_DECODER_RECV | op::SECTION_ON) {

@@ -307,8 +307,8 @@ fn set_high(p: &mut Pair, r: &mut Random) -> Result<(), Fault> {
     Ok(())
 }
 
-/// One sequence from fresh tables.
-pub fn episode(p: &mut Pair, r: &mut Random) -> Result<(), Fault> {
+/// One sequence from fresh tables; `after` looks at the pair after every step.
+pub fn episode(p: &mut Pair, r: &mut Random, mut after: impl FnMut(&Pair)) -> Result<(), Fault> {
     p.reset()?;
     let m = mood(r);
     if r.one_in(8) {
@@ -328,6 +328,7 @@ pub fn episode(p: &mut Pair, r: &mut Random) -> Result<(), Fault> {
         let short = r.one_in(200);
         let c = if short { c.clone().lend(r.below(WHOLE_ARENA)) } else { c };
         p.step(c)?;
+        after(p);
     }
     Ok(())
 }

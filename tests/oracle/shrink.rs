@@ -12,10 +12,15 @@ fn without(script: &[Command], from: usize, len: usize) -> Vec<Command> {
     script[..from].iter().chain(&script[from + len..]).cloned().collect()
 }
 
-/// Leaves out runs of commands, long ones first, as long as a difference is still there.
+/// The shortest script that still shows a difference.
 pub fn shortest(program: &str, log: &[Command]) -> Vec<Command> {
+    least(log, |script| run(program, script).is_some())
+}
+
+/// Leaves out runs of commands, long ones first, as long as a script still shows what it is to show.
+pub fn least(log: &[Command], mut shows: impl FnMut(&[Command]) -> bool) -> Vec<Command> {
     let mut script = log.to_vec();
-    if run(program, &script).is_none() {
+    if !shows(&script) {
         return script;
     }
     let mut len = script.len() / 2;
@@ -23,7 +28,7 @@ pub fn shortest(program: &str, log: &[Command]) -> Vec<Command> {
         let mut from = 0;
         while from + len <= script.len() {
             let shorter = without(&script, from, len);
-            if run(program, &shorter).is_some() {
+            if shows(&shorter) {
                 script = shorter;
             } else {
                 from += len;
