@@ -1,5 +1,6 @@
 //! The differential runs: calls on the crate and on the program replay, compared step by step (docs/DIFFERENCES.md).
 mod calls;
+mod compare;
 mod exhaustive;
 mod leaves;
 mod listed;

@@ -1,7 +1,6 @@
 //! Calls on the two streams and on sections: the crate's answers, and the listed differences that are told only by what both sides answered.
 use crate::listed::{self, Listed};
 use crate::numbers::{self, PANIC};
-use crate::ours::Seen;
 use crate::script::{op, Command};
 use crate::table::Table;
 use h3::qpack::decoder::{decode_stateless, Decoded, Decoder, DecoderError};
@@ -232,7 +231,7 @@ fn section_parts(t: &Table, c: &Command, number: u32, fits: bool) -> Option<&'st
     }
 }
 
-/// A section on a table, or with none. `large` is our answer with room for everything, asked for where this one has not.
+/// A section on a table, or with none.
 pub fn section(t: &mut Table, c: &Command, ours: &str) -> Result<Option<&'static Listed>, String> {
     let number: u32 = ours.split(' ').next().unwrap_or("").parse().unwrap_or(PANIC);
     let (rust, line, room) = match read(t, c) {
@@ -247,9 +246,4 @@ pub fn section(t: &mut Table, c: &Command, ours: &str) -> Result<Option<&'static
         return Ok(None);
     }
     section_parts(t, c, number, room).map(Some).ok_or_else(|| if rust == 0 { line } else { rust.to_string() })
-}
-
-/// Ours after a section: nothing of the table moves.
-pub fn unmoved(t: &Table, s: &Seen) -> Option<String> {
-    t.differs(s)
 }
