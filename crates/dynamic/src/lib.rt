@@ -43,6 +43,7 @@ use tracking::Value;
 use tracking::Waiting;
 
 // A table by value; its strings stand in the arena that a call is lent.
+#[repr(C)]
 pub struct Table {
     pub ring: Ring,
     // The known received count, and the blocked maximum.

@@ -22,6 +22,7 @@ use field::ESTIMATED_OVERHEAD_BYTES;
 pub const LARGEST_COUNT: usize = 4611686018427387903;
 
 // The entries of a table; their strings stand in the arena that a call is lent.
+#[repr(C)]
 pub struct Ring {
     // How many entries were ever inserted, and how many of these are gone.
     pub inserted: usize,

@@ -14,12 +14,14 @@ use model::QUEUE_PLACES;
 use model::SECTION_ENTRIES;
 
 // One entry's uses in a section: how far the entry lies above the section's first number, and how often it is used.
+#[repr(C)]
 pub struct Held {
     pub offset: u16,
     pub count: u16,
 }
 
 // The entries that a section of a stream uses: the first `used` of the uses.
+#[repr(C)]
 pub struct Section {
     pub stream: u64,
     pub from: usize,
@@ -41,6 +43,7 @@ pub struct Floor {
 }
 
 // The committed sections, oldest first: the first `queued` places.
+#[repr(C)]
 pub struct Queue {
     pub queued: usize,
     pub places: [Section; QUEUE_PLACES],
@@ -53,12 +56,14 @@ pub struct Queued {
 }
 
 // A largest reference, and how many blocked sections have it.
+#[repr(C)]
 pub struct Value {
     pub largest: usize,
     pub sections: usize,
 }
 
 // The blocked sections: how many there are in all, and the first `distinct` values.
+#[repr(C)]
 pub struct Waiting {
     pub total: usize,
     pub distinct: usize,
