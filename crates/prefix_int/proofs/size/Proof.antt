@@ -6,7 +6,7 @@ use borrow.Author.Tests.{not-true, not-false}
 use borrow.Author.Needs.{needs}
 use Rattle.answers.specs.Answer.{done}
 use Rattle.prefix_int.specs.Integer.{goodCall}
-use Rattle.prefix_int.proofs.Writing.{call-good, bytes-bad, bytes-large, bytes-good}
+use Rattle.int_writing.proofs.Writing.{call-good, bytes-bad, bytes-large, bytes-good}
 use Rattle.prefix_int.proofs.size.Statement.{statement}
 use Rattle.prefix_int.proofs.size.Tie as tie
 

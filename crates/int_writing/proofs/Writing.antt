@@ -15,7 +15,7 @@ use lib.Seq.{sets}
 use borrow.Author.Tests.{lt-ltb, le-ltb, ltb-true, ltb-false}
 use Rattle.answers.specs.Answer.{done, refused}
 use Rattle.answers.specs.declared.Refusal.the-variants.{BadCall, CountTooLarge}
-use Rattle.prefix_int.specs.Integer.{spell, encode, goodCall, intBytes}
+use Rattle.int_writing.specs.Octets.{spell, encode, goodCall, intBytes}
 
 -- ---- a run of groups
 

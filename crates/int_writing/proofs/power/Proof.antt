@@ -1,4 +1,4 @@
--- `prefix_int::power`: the shift loses no bit, as 1 is below 2 ^ 1 and k is at most 8. Assumes nothing.
+-- `int_writing::power`: the shift loses no bit, as 1 is below 2 ^ 1 and k is at most 8. Assumes nothing.
 use mathlib.Core.Path.{_≡_, _∙_}
 use native.Mathlib.Nat.{one-mul}
 use native.Mathlib.Omega.{arith}
@@ -6,8 +6,8 @@ use borrow.Author.Needs.{needs}
 use lib.Dec.{lit<}
 use lib.Pow.{shl-exact, pow-pos, pow-mono}
 use Prim.Native.Nat.{_*_, _%_, _^_, _≤_}
-use Rattle.prefix_int.proofs.power.Statement.{statement}
-use Rattle.prefix_int.proofs.power.Tie as tie
+use Rattle.int_writing.proofs.power.Statement.{statement}
+use Rattle.int_writing.proofs.power.Tie as tie
 
 shl-result : tie.Need-shl-result
 shl-result c = search needs

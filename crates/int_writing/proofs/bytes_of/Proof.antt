@@ -1,13 +1,13 @@
--- `prefix_int::bytes_of`: one octet, and the groups of a value that does not end in it. Assumes nothing.
+-- `int_writing::bytes_of`: one octet, and the groups of a value that does not end in it. Assumes nothing.
 use mathlib.Core.Path.{_≡_, sym}
 use Prim.Native.Nat.{suc, _-_}
 use lib.ListN.{length}
-use Rattle.prefix_int.specs.Integer.{encode, spell}
+use Rattle.int_writing.specs.Octets.{encode, spell}
 use native.Mathlib.Omega.{arith}
-use Rattle.prefix_int.proofs.Writing.{length-short, length-long}
+use Rattle.int_writing.proofs.Writing.{length-short, length-long}
 use borrow.Author.Needs.{needs}
-use Rattle.prefix_int.proofs.bytes_of.Statement.{statement}
-use Rattle.prefix_int.proofs.bytes_of.Tie as tie
+use Rattle.int_writing.proofs.bytes_of.Statement.{statement}
+use Rattle.int_writing.proofs.bytes_of.Tie as tie
 
 power-requires : tie.Need-power-requires
 power-requires c κs = search needs

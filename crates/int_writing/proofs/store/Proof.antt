@@ -1,14 +1,14 @@
--- `prefix_int::store`: one octet where the value ends in the prefix, else a full prefix and the groups. Assumes nothing.
+-- `int_writing::store`: one octet where the value ends in the prefix, else a full prefix and the groups. Assumes nothing.
 use mathlib.Core.Path.{_≡_, _∙_}
 use Prim.Native.Nat.{ℕ, suc, _+_, _-_, _*_, _≤_, _<_}
 use native.Mathlib.Omega.{arith}
 use lib.ListN.{length, length-set}
 use denote.Ref.{now}
 use borrow.Author.Needs.{needs}
-use Rattle.prefix_int.specs.Integer.{encode, spell}
-use Rattle.prefix_int.proofs.Writing.{first-fits, encode-short, length-short, length-long, store-long}
-use Rattle.prefix_int.proofs.store.Statement.{statement}
-use Rattle.prefix_int.proofs.store.Tie as tie
+use Rattle.int_writing.specs.Octets.{encode, spell}
+use Rattle.int_writing.proofs.Writing.{first-fits, encode-short, length-short, length-long, store-long}
+use Rattle.int_writing.proofs.store.Statement.{statement}
+use Rattle.int_writing.proofs.store.Tie as tie
 
 module _ (c : tie.After-power) where
   -- the first octet fits

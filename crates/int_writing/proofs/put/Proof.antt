@@ -1,14 +1,14 @@
--- `prefix_int::put`. The invariant: storing what is left to spell gives the list that storing all gives. Assumes nothing.
+-- `int_writing::put`. The invariant: storing what is left to spell gives the list that storing all gives. Assumes nothing.
 use mathlib.Core.Path.{_≡_, refl, _∙_}
 use Prim.Native.Nat.{ℕ, suc, _+_, _*_, _-_, _/_, _^_, _≤_, _<_}
 use native.Mathlib.Omega.{arith}
 use lib.ListN.{length, length-set}
 use lib.Seq.{sets}
 use borrow.Author.Needs.{needs}
-use Rattle.prefix_int.specs.Integer.{spell}
-use Rattle.prefix_int.proofs.Writing.{length-last, length-more, put-last, put-more, spell-fits}
-use Rattle.prefix_int.proofs.put.Statement.{statement}
-use Rattle.prefix_int.proofs.put.Tie as tie
+use Rattle.int_writing.specs.Octets.{spell}
+use Rattle.int_writing.proofs.Writing.{length-last, length-more, put-last, put-more, spell-fits}
+use Rattle.int_writing.proofs.put.Statement.{statement}
+use Rattle.int_writing.proofs.put.Tie as tie
 
 abbrev Inv-loop : tie.InvT-loop
 Inv-loop buf₀ from rest at₀ i₀ buf at i =

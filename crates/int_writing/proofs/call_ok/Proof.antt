@@ -1,8 +1,8 @@
--- `prefix_int::call_ok`: each return rewrites with the tests that led there. Assumes nothing.
+-- `int_writing::call_ok`: each return rewrites with the tests that led there. Assumes nothing.
 use borrow.Author.Tests.{lt-ltb, le-ltb}
 use borrow.Author.Needs.{needs}
-use Rattle.prefix_int.proofs.call_ok.Statement.{statement}
-use Rattle.prefix_int.proofs.call_ok.Tie as tie
+use Rattle.int_writing.proofs.call_ok.Statement.{statement}
+use Rattle.int_writing.proofs.call_ok.Tie as tie
 
 returns : tie.Need-returns
 returns c = simp (lt-ltb _ _ (c .if1 .taken))

@@ -1,4 +1,4 @@
--- `prefix_int::write`: each return is one of the outcomes of a writer, by the tests that led there. Assumes nothing.
+-- `int_writing::write`: each return is one of the outcomes of a writer, by the tests that led there. Assumes nothing.
 use mathlib.Core.Path.{_≡_, sym, ap, _∙_}
 use mathlib.Core.Bool.{true}
 use Prim.Native.Nat.{_+_, _-_, _^_, _<_}
@@ -9,10 +9,10 @@ use borrow.Author.Needs.{needs}
 use Rattle.answers.specs.Answer.{done}
 use Rattle.answers.specs.declared.Refusal.the-variants.{BadCall, CountTooLarge}
 use Rattle.answers.proofs.Write.{writes-refused, writes-full, writes-next}
-use Rattle.prefix_int.specs.Integer.{encode, goodCall, intBytes}
-use Rattle.prefix_int.proofs.Writing.{call-good, bytes-bad, bytes-large, bytes-good, length-flags}
-use Rattle.prefix_int.proofs.write.Statement.{statement}
-use Rattle.prefix_int.proofs.write.Tie as tie
+use Rattle.int_writing.specs.Octets.{encode, goodCall, intBytes}
+use Rattle.int_writing.proofs.Writing.{call-good, bytes-bad, bytes-large, bytes-good, length-flags}
+use Rattle.int_writing.proofs.write.Statement.{statement}
+use Rattle.int_writing.proofs.write.Tie as tie
 
 good : (c : tie.Else1) → goodCall (c .before .before .before .args .width) (c .before .before .before .args .flags) ≡ true
 good c = sym (c .before .call-ok .ensures) ∙ not-false _ (c .if1 .left)

@@ -1,11 +1,11 @@
--- `prefix_int::spelled`: the count of groups from the leading zeros. Assumes nothing.
+-- `int_writing::spelled`: the count of groups from the leading zeros. Assumes nothing.
 use mathlib.Core.Path.{sym}
 use native.Mathlib.Omega.{arith}
 use lib.Count.{leading-le}
-use Rattle.prefix_int.proofs.Writing.{length-last, spelled-law}
+use Rattle.int_writing.proofs.Writing.{length-last, spelled-law}
 use borrow.Author.Needs.{needs}
-use Rattle.prefix_int.proofs.spelled.Statement.{statement}
-use Rattle.prefix_int.proofs.spelled.Tie as tie
+use Rattle.int_writing.proofs.spelled.Statement.{statement}
+use Rattle.int_writing.proofs.spelled.Tie as tie
 
 returns : tie.Need-returns
 returns c = (sym (length-last 8 (c .before .args .rest) (c .if1 .taken)), omega arith)
