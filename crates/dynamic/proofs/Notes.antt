@@ -21,7 +21,7 @@ use Rattle.tracking.specs.declared.Noted.{Noted}
 use Rattle.tracking.specs.declared.Section.{Section}
 use Rattle.tracking.proofs.Floors.{few-uses, uses-live}
 use Rattle.tracking.proofs.Flooring.{inserted}
-use Rattle.tracking.proofs.Lists.{and-left, and-right}
+use Rattle.blocked.proofs.Lists.{and-left, and-right}
 use Rattle.tracking.proofs.Uses.{used-few, noted-new}
 use Rattle.dynamic.specs.Calls.{latestAfter, originAfter, notedIn, withUses, noteAlso, notedFor}
 use Rattle.dynamic.specs.Record.{usesHere}

@@ -10,7 +10,7 @@ use Rattle.entries.proofs.Chain.{and-left, and-right}
 use Rattle.model.specs.Bounds.{blockedSections, queuePlaces}
 use Rattle.ring.specs.Ring.{largestCount, keeps}
 use Rattle.tracking.specs.Queue.{sectionLive, allSectionsLive}
-use Rattle.tracking.specs.Waiting.{keepsCount}
+use Rattle.blocked.specs.Waiting.{keepsCount}
 use Rattle.tracking.specs.declared.Section.{Section}
 use Rattle.dynamic.specs.Record.{openRules, openKeeps, queueKeeps, countsWithin, sound}
 use Rattle.dynamic.specs.declared.Table.{Table}

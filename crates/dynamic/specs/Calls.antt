@@ -46,14 +46,14 @@ use Rattle.ring.specs.declared.Source.the-variants.{Given}
 use Rattle.static_table.specs.Static.{lowestName}
 use Rattle.tracking.specs.Queue.{noSection, pushing as queueing, releasing}
 use Rattle.tracking.specs.Uses.{noHeld, noting}
-use Rattle.tracking.specs.Waiting.{noValue, blocking, letGo}
-use Rattle.tracking.specs.declared.Counted.{Counted}
+use Rattle.blocked.specs.Waiting.{noValue, blocking, letGo}
+use Rattle.blocked.specs.declared.Counted.{Counted}
 use Rattle.tracking.specs.declared.Held.{Held}
 use Rattle.tracking.specs.declared.Noted.{Noted}
 use Rattle.tracking.specs.declared.Queue.{Queue}
 use Rattle.tracking.specs.declared.Queued.{Queued}
 use Rattle.tracking.specs.declared.Section.{Section}
-use Rattle.tracking.specs.declared.Waiting.{Waiting}
+use Rattle.blocked.specs.declared.Waiting.{Waiting}
 use Rattle.dynamic.specs.declared.CapacityTest.{CapacityTest}
 use Rattle.dynamic.specs.declared.CapacityTest.the-variants.{Within}
 use Rattle.dynamic.specs.declared.Inserting.{Inserting}

@@ -12,7 +12,7 @@ use Rattle.model.specs.Table as model
 use Rattle.ring.specs.Ring.{largestCount, fieldsOf, keeps}
 use Rattle.tracking.specs.Queue.{sectionsOf, sectionLive, lowest, lowestOfAll, allSectionsLive}
 use Rattle.tracking.specs.Uses.{usesOf}
-use Rattle.tracking.specs.Waiting.{waitingOf, keepsCount}
+use Rattle.blocked.specs.Waiting.{waitingOf, keepsCount}
 use Rattle.tracking.specs.declared.Floor.{Floor}
 use Rattle.tracking.specs.declared.Section.{Section}
 use Rattle.dynamic.specs.declared.Checked.{Checked}

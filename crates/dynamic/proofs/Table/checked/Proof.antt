@@ -5,7 +5,7 @@ use borrow.Author.Needs.{needs}
 use borrow.Author.Tests.{not-true, not-false, le-leb, lt-leb, lt-ltb, le-ltb}
 use Rattle.ring.specs.Ring.{keeps}
 use Rattle.ring.proofs.Keeping.{kept}
-use Rattle.tracking.specs.Waiting.{keepsCount}
+use Rattle.blocked.specs.Waiting.{keepsCount}
 use Rattle.tracking.specs.declared.Floor.{Floor}
 use Rattle.dynamic.specs.Record.{sound, openKeeps, queueKeeps, lowestQueued}
 use Rattle.dynamic.specs.declared.Table.{Table}

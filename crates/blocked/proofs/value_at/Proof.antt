@@ -1,12 +1,12 @@
--- `tracking::value_at`: the loop keeps `Searching`. Assumes nothing.
+-- `blocked::value_at`: the loop keeps `Searching`. Assumes nothing.
 use mathlib.Core.Path.{_≡_}
 use Prim.Native.Nat.{_-_}
 use native.Mathlib.Omega.{arith}
 use lib.ListN.{length, length-map}
-use Rattle.tracking.proofs.Searching.{Searching, not-yet, here, not-here, nowhere}
-use Rattle.tracking.specs.declared.Value.{Value}
-use Rattle.tracking.proofs.value_at.Statement.{statement}
-use Rattle.tracking.proofs.value_at.Tie as tie
+use Rattle.blocked.proofs.Searching.{Searching, not-yet, here, not-here, nowhere}
+use Rattle.blocked.specs.declared.Value.{Value}
+use Rattle.blocked.proofs.value_at.Statement.{statement}
+use Rattle.blocked.proofs.value_at.Tie as tie
 
 abbrev Inv-loop : tie.InvT-loop
 Inv-loop largest waiting distinct i₀ i = Searching (λ (v : Value). v .largest) largest distinct (waiting .values) i

@@ -9,10 +9,10 @@ use lib.Dec.{leb, eqb}
 use lib.ListN.{length, getD, take, drop}
 use borrow.Author.Tests.{leb-true, le-leb, lt-leb, eqb-true, eqb-false, eq-eqb, ne-eqb}
 use Rattle.model.specs.Bounds.{blockedValues, blockedSections}
-use Rattle.tracking.specs.declared.Value.{Value}
-use Rattle.tracking.specs.declared.Waiting.{Waiting}
-use Rattle.tracking.specs.Waiting.{valuesOf, sumOf, keepsCount}
-use Rattle.tracking.proofs.Lists.{next, none-left, and-left, and-right}
+use Rattle.blocked.specs.declared.Value.{Value}
+use Rattle.blocked.specs.declared.Waiting.{Waiting}
+use Rattle.blocked.specs.Waiting.{valuesOf, sumOf, keepsCount}
+use Rattle.blocked.proofs.Lists.{next, none-left, and-left, and-right}
 
 pub record Counting (total n : ℕ) (l : List Value) (left k : ℕ) : Type 0 where
   pub passed : k ≤ n

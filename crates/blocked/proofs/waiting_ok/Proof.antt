@@ -1,12 +1,12 @@
--- `tracking::waiting_ok`: two bounds, then the loop keeps `Counting`. Assumes nothing.
+-- `blocked::waiting_ok`: two bounds, then the loop keeps `Counting`. Assumes nothing.
 use mathlib.Core.Path.{_≡_, sym, _∙_}
 use Prim.Native.Nat.{_-_}
 use native.Mathlib.Omega.{arith}
 use lib.ListN.{length, length-map}
-use Rattle.tracking.specs.Waiting.{noValue}
-use Rattle.tracking.proofs.Counting.{Counting, count, counted, past, settled, many-values, many-sections, keeps-sum}
-use Rattle.tracking.proofs.waiting_ok.Statement.{statement}
-use Rattle.tracking.proofs.waiting_ok.Tie as tie
+use Rattle.blocked.specs.Waiting.{noValue}
+use Rattle.blocked.proofs.Counting.{Counting, count, counted, past, settled, many-values, many-sections, keeps-sum}
+use Rattle.blocked.proofs.waiting_ok.Statement.{statement}
+use Rattle.blocked.proofs.waiting_ok.Tie as tie
 
 abbrev Inv-loop : tie.InvT-loop
 Inv-loop waiting distinct left₀ i₀ left i = Counting (waiting .total) distinct (waiting .values) left i

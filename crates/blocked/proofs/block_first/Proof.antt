@@ -1,9 +1,9 @@
--- `tracking::block_first`: each way through the code is one case of `blocking`. Assumes nothing.
+-- `blocked::block_first`: each way through the code is one case of `blocking`. Assumes nothing.
 use mathlib.Core.Path.{refl, sym}
 use native.Mathlib.Omega.{arith}
-use Rattle.tracking.proofs.Blocking.{no-place, new-value}
-use Rattle.tracking.proofs.block_first.Statement.{statement}
-use Rattle.tracking.proofs.block_first.Tie as tie
+use Rattle.blocked.proofs.Blocking.{no-place, new-value}
+use Rattle.blocked.proofs.block_first.Statement.{statement}
+use Rattle.blocked.proofs.block_first.Tie as tie
 
 returns : tie.Need-returns
 returns c = let p = c .before .pre in sym (no-place _ _ (p .0) (p .1) _ refl (p .2) (c .if1 .taken))

@@ -6,10 +6,10 @@ use lib.Dec.{leb, ltb, eqb}
 use lib.ListN.{length, getD, take, set, replicate}
 use Rattle.model.specs.Bounds.{blockedValues, blockedSections}
 use Rattle.model.specs.Table.{Blocked}
-use Rattle.tracking.specs.declared.Counted.{Counted}
-use Rattle.tracking.specs.declared.Value.{Value}
-use Rattle.tracking.specs.declared.Waiting.{Waiting}
-use Rattle.tracking.specs.Search.{firstOf}
+use Rattle.blocked.specs.declared.Counted.{Counted}
+use Rattle.blocked.specs.declared.Value.{Value}
+use Rattle.blocked.specs.declared.Waiting.{Waiting}
+use Rattle.blocked.specs.Search.{firstOf}
 
 abbrev pub noValue : Value
 noValue = record { largest = 0; sections = 0 }

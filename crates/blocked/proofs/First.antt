@@ -8,7 +8,7 @@ use native.Mathlib.Omega.{arith}
 use lib.Dec.{eqb}
 use lib.ListN.{length, getD, set}
 use borrow.Author.Tests.{eqb-true, eqb-false, eq-eqb, ne-eqb}
-use Rattle.tracking.specs.Search.{firstOf}
+use Rattle.blocked.specs.Search.{firstOf}
 
 module _ {A : Type 0} (f : A → ℕ) (x : ℕ) (a : A) where
   pub first-here : (l : List A) → f a ≡ x → firstOf f x (a ∷ l) ≡ 0

@@ -15,10 +15,10 @@ use Rattle.model.specs.Bounds.{blockedValues, blockedSections}
 use Rattle.model.specs.Report.{above}
 use Rattle.model.specs.Section.{blockIn}
 use Rattle.model.specs.Table.{Blocked, blockedCount}
-use Rattle.tracking.specs.declared.Counted.{Counted}
-use Rattle.tracking.specs.declared.Value.{Value}
-use Rattle.tracking.specs.declared.Waiting.{Waiting}
-use Rattle.tracking.specs.Waiting.{
+use Rattle.blocked.specs.declared.Counted.{Counted}
+use Rattle.blocked.specs.declared.Value.{Value}
+use Rattle.blocked.specs.declared.Waiting.{Waiting}
+use Rattle.blocked.specs.Waiting.{
   noValue,
   blockedOf,
   valuesOf,
@@ -31,10 +31,10 @@ use Rattle.tracking.specs.Waiting.{
   letGoOf,
   letGo,
 }
-use Rattle.tracking.proofs.First.{first-is, Passing, changed, added, not-added}
-use Rattle.tracking.proofs.Counting.{few-values, few-sections, sums-up, keeps}
-use Rattle.tracking.proofs.Blocking.{no-more, one-more, no-place, new-value}
-use Rattle.tracking.proofs.Keeping.{sum-append, kept-sum, lets-go}
+use Rattle.blocked.proofs.First.{first-is, Passing, changed, added, not-added}
+use Rattle.blocked.proofs.Counting.{few-values, few-sections, sums-up, keeps}
+use Rattle.blocked.proofs.Blocking.{no-more, one-more, no-place, new-value}
+use Rattle.blocked.proofs.Keeping.{sum-append, kept-sum, lets-go}
 
 -- ---- how many there are
 

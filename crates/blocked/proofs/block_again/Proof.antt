@@ -1,11 +1,11 @@
--- `tracking::block_again`: one case of `blocking`. Assumes nothing.
+-- `blocked::block_again`: one case of `blocking`. Assumes nothing.
 use mathlib.Core.Path.{_≡_, sym}
 use native.Mathlib.Omega.{arith}
 use lib.ListN.{length, length-map}
-use Rattle.tracking.proofs.Counting.{few-values}
-use Rattle.tracking.proofs.Blocking.{bounded, one-more}
-use Rattle.tracking.proofs.block_again.Statement.{statement}
-use Rattle.tracking.proofs.block_again.Tie as tie
+use Rattle.blocked.proofs.Counting.{few-values}
+use Rattle.blocked.proofs.Blocking.{bounded, one-more}
+use Rattle.blocked.proofs.block_again.Statement.{statement}
+use Rattle.blocked.proofs.block_again.Tie as tie
 
 long : (z : tie.Start) → length (z .args .waiting .values) ≡ 64
 long z = simp length-map at (z .good .0 .1 .1 .1 .1 .0 .1 .0 .1)

@@ -1,15 +1,15 @@
--- `tracking::let_go`: the loop keeps `Keeping`. Assumes nothing.
+-- `blocked::let_go`: the loop keeps `Keeping`. Assumes nothing.
 use mathlib.Core.Path.{_≡_, sym, _∙_}
 use mathlib.Core.Bool.{true}
 use Prim.Native.Nat.{_-_}
 use native.Mathlib.Omega.{arith}
 use lib.ListN.{length, length-map}
 use borrow.Author.Tests.{not-true, not-false}
-use Rattle.tracking.specs.Waiting.{noValue, keepsCount}
-use Rattle.tracking.proofs.Counting.{few-values, sums-up, few-sections}
-use Rattle.tracking.proofs.Keeping.{Keeping, none-kept, gone, fits, one-kept, all-kept, breaks-rule, lets-go}
-use Rattle.tracking.proofs.let_go.Statement.{statement}
-use Rattle.tracking.proofs.let_go.Tie as tie
+use Rattle.blocked.specs.Waiting.{noValue, keepsCount}
+use Rattle.blocked.proofs.Counting.{few-values, sums-up, few-sections}
+use Rattle.blocked.proofs.Keeping.{Keeping, none-kept, gone, fits, one-kept, all-kept, breaks-rule, lets-go}
+use Rattle.blocked.proofs.let_go.Statement.{statement}
+use Rattle.blocked.proofs.let_go.Tie as tie
 
 abbrev Inv-loop : tie.InvT-loop
 Inv-loop known waiting ok values₀ total₀ kept₀ distinct i₀ values total kept i = Keeping known distinct (waiting .values) values total kept i

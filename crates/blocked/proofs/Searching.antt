@@ -7,8 +7,8 @@ use native.Mathlib.Numerals.{add-one}
 use native.Mathlib.Omega.{arith}
 use lib.ListN.{length, getD, take, drop}
 use borrow.Author.Tests.{eq-eqb, ne-eqb}
-use Rattle.tracking.specs.Search.{firstOf}
-use Rattle.tracking.proofs.Lists.{next, none-left}
+use Rattle.blocked.specs.Search.{firstOf}
+use Rattle.blocked.proofs.Lists.{next, none-left}
 
 pub record Searching {A : Type 0} (f : A → ℕ) (x n : ℕ) (l : List A) (i : ℕ) : Type 0 where
   pub passed : i ≤ n

@@ -8,10 +8,10 @@ use lib.ListN.{length, getD, set}
 use lib.Seq.{getD-take, length-take-le}
 use borrow.Author.Tests.{lt-ltb, le-ltb}
 use Rattle.model.specs.Bounds.{blockedValues, blockedSections}
-use Rattle.tracking.specs.declared.Value.{Value}
-use Rattle.tracking.specs.declared.Waiting.{Waiting}
-use Rattle.tracking.specs.Waiting.{noValue, valuesOf, sumOf, valueAt, keepsCount, blocking}
-use Rattle.tracking.proofs.Counting.{few-values, few-sections, sums-up}
+use Rattle.blocked.specs.declared.Value.{Value}
+use Rattle.blocked.specs.declared.Waiting.{Waiting}
+use Rattle.blocked.specs.Waiting.{noValue, valuesOf, sumOf, valueAt, keepsCount, blocking}
+use Rattle.blocked.proofs.Counting.{few-values, few-sections, sums-up}
 
 -- no value has more sections than all
 part-of-sum : (l : List Value) (i : ℕ) (d : Value) → i < length l → getD l i d .sections ≤ sumOf l

@@ -11,10 +11,10 @@ use lib.ListN.{length, getD, take, drop, set, replicate, length-append}
 use lib.Seq.{append-snoc, set-at}
 use borrow.Author.Tests.{le-leb, lt-leb}
 use Rattle.model.specs.Bounds.{blockedValues, blockedSections}
-use Rattle.tracking.specs.declared.Value.{Value}
-use Rattle.tracking.specs.declared.Waiting.{Waiting}
-use Rattle.tracking.specs.Waiting.{noValue, valuesOf, sumOf, keepsCount, kept, letGoOf, letGo}
-use Rattle.tracking.proofs.Lists.{next, none-left}
+use Rattle.blocked.specs.declared.Value.{Value}
+use Rattle.blocked.specs.declared.Waiting.{Waiting}
+use Rattle.blocked.specs.Waiting.{noValue, valuesOf, sumOf, keepsCount, kept, letGoOf, letGo}
+use Rattle.blocked.proofs.Lists.{next, none-left}
 
 pub sum-append : (l m : List Value) → sumOf (l ++ m) ≡ sumOf l + sumOf m
 sum-append [] m = sym (zero-add _)

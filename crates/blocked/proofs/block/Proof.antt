@@ -1,13 +1,13 @@
--- `tracking::block`: refusals by the cases of `blocking`, and both cases of the place that `value_at` finds are its callees'. Assumes nothing.
+-- `blocked::block`: refusals by the cases of `blocking`, and both cases of the place that `value_at` finds are its callees'. Assumes nothing.
 use mathlib.Core.Path.{_≡_, sym, _∙_}
 use mathlib.Core.Bool.{true}
 use native.Mathlib.Omega.{arith}
 use borrow.Author.Tests.{not-true, not-false}
-use Rattle.tracking.specs.Waiting.{keepsCount}
-use Rattle.tracking.proofs.Counting.{few-values}
-use Rattle.tracking.proofs.Blocking.{breaks-rule, no-more}
-use Rattle.tracking.proofs.block.Statement.{statement}
-use Rattle.tracking.proofs.block.Tie as tie
+use Rattle.blocked.specs.Waiting.{keepsCount}
+use Rattle.blocked.proofs.Counting.{few-values}
+use Rattle.blocked.proofs.Blocking.{breaks-rule, no-more}
+use Rattle.blocked.proofs.block.Statement.{statement}
+use Rattle.blocked.proofs.block.Tie as tie
 
 ok : (c : tie.Else1) → keepsCount (c .before .before .args .waiting) ≡ true
 ok c = sym (c .before .waiting-ok .ensures) ∙ not-false _ (c .if1 .left)
