@@ -15,7 +15,7 @@ use Rattle.answers.specs.declared.Reply.{Reply}
 use Rattle.answers.proofs.Then.{then-done}
 use Rattle.field.specs.Field.{overhead}
 use Rattle.block.specs.Lines.{FieldLine, indexed, named, literal, lineAt}
-use Rattle.block.specs.declared.Reference.{Reference}
+use Rattle.line_writing.specs.declared.Reference.{Reference}
 use Rattle.block.proofs.Found.{Lies, line-lies}
 use Rattle.field_lines.specs.Line.{Read, entryOn, entryStatic, fieldOfLine, lineOn, lineStatic, liveOf, isPostBase}
 use Rattle.field.specs.Field.{Field}

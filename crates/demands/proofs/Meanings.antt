@@ -15,7 +15,7 @@ use Rattle.block.specs.declared.LineRead.{LineRead}
 use Rattle.decoder_stream.specs.Reports as reports
 use Rattle.decoder_stream.specs.declared.ReportRead.{ReportRead}
 use Rattle.dynamic.specs.Calls.{tested}
-use Rattle.dynamic.specs.declared.CapacityTest.{CapacityTest}
+use Rattle.call_parts.specs.declared.CapacityTest.{CapacityTest}
 use Rattle.entries.specs.Latest.{latest}
 use Rattle.entries.specs.declared.Latest.{Latest}
 use Rattle.header_prefix.specs.Prefix as prefix

@@ -13,7 +13,7 @@ use Rattle.answers.specs.Answer.{Answer, done, refused}
 use Rattle.answers.specs.Table.{replied}
 use Rattle.arena.specs.Ring.{longEnough}
 use Rattle.block.specs.Lines.{FieldLine, indexed, named, literal, lineAt}
-use Rattle.block.specs.declared.Reference.{Reference}
+use Rattle.line_writing.specs.declared.Reference.{Reference}
 use Rattle.block.proofs.Rows.{line-row}
 use Rattle.decoder.specs.Section as section
 use Rattle.decoder.specs.declared.Cursor.{Cursor}

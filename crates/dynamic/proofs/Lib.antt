@@ -4,7 +4,6 @@ pub mod Free
 pub mod Fresh
 pub mod Insertions
 pub mod Made
-pub mod Naming
 pub mod Notes
 pub mod Putting
 pub mod Refer

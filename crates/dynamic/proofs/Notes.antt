@@ -25,7 +25,8 @@ use Rattle.blocked.proofs.Lists.{and-left, and-right}
 use Rattle.tracking.proofs.Uses.{used-few, noted-new}
 use Rattle.dynamic.specs.Calls.{latestAfter, originAfter, notedIn, withUses, noteAlso, notedFor}
 use Rattle.dynamic.specs.Record.{usesHere}
-use Rattle.dynamic.proofs.Refer.{found-within, note-is, still-long, not-fewer, note-live}
+use Rattle.call_parts.proofs.Searched.{found-within}
+use Rattle.dynamic.proofs.Refer.{note-is, still-long, not-fewer, note-live}
 
 -- ---- what names a new entry is above a number and at most another
 

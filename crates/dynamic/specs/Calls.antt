@@ -54,15 +54,14 @@ use Rattle.tracking.specs.declared.Queue.{Queue}
 use Rattle.tracking.specs.declared.Queued.{Queued}
 use Rattle.tracking.specs.declared.Section.{Section}
 use Rattle.blocked.specs.declared.Waiting.{Waiting}
-use Rattle.dynamic.specs.declared.CapacityTest.{CapacityTest}
-use Rattle.dynamic.specs.declared.CapacityTest.the-variants.{Within}
 use Rattle.dynamic.specs.declared.Inserting.{Inserting}
 use Rattle.dynamic.specs.declared.Looked.{Looked}
-use Rattle.dynamic.specs.declared.Origin.{Origin as Naming}
-use Rattle.dynamic.specs.declared.Origin.the-variants.{EqualEntry, StaticName, NamedEntry, Plain}
 use Rattle.dynamic.specs.declared.Replied.{Replied}
 use Rattle.dynamic.specs.declared.Table.{Table}
 use Rattle.dynamic.specs.Record.{sound, usable, lowestUsed}
+-- the parts that need no record
+unfoldable pub use Rattle.call_parts.specs.Parts.{capacityAnswer, pushReply, originAfter}
+pub use Rattle.call_parts.specs.Parts.{tested, countedWith, notedIn, withUses, latestAfter, originOf, OlderThan, NewerThan, noteAlso, notedFor}
 
 -- ---- the record with some fields set
 
@@ -196,14 +195,6 @@ freshTable =
 abbrev pub cutTo : Table → Cut → Replied
 cutTo t k = cond (k .made) (answer (withRing (k .ring) t) Reply.Done) (no t ShrinkBlocked)
 
--- "9: capacity above 1,073,741,823. 10: capacity 16,385 to 1,073,741,823"
-abbrev pub tested : CapacityTest → Option Refusal
-tested Within = none
-tested (CapacityTest.Refused r) = some r
-
-unfoldable pub capacityAnswer : ℕ → Option Refusal
-capacityAnswer c = cond (ltb largestCapacity c) (some MaximumTableSizeTooLarge) (cond (ltb lentRoom c) (some AboveLentRoom) none)
-
 abbrev pub cutUnless : Table → ℕ → Option Refusal → Replied
 cutUnless t c (some r) = no t r
 cutUnless t c none = cutTo t (cutting (t .ring) (lowestUsed t) c)
@@ -213,14 +204,6 @@ setCapacity t c = whenClosed t (cutUnless t c (capacityAnswer c))
 
 unfoldable pub setMost : Table → ℕ → Replied
 setMost t m = whenClosed t (cond (leb blockedSections m) (no t MaxBlockedStreamsTooLarge) (answer (withMost m t) Reply.Done))
-
--- what a put answers: "at capacity 0, or kept out by references, answers 0 and does nothing"; "8: `put` larger than a capacity above 0"
-unfoldable pub pushReply : ℕ → Push → Reply
-pushReply c Made = Reply.Done
-pushReply c TooLarge = cond (eqb c 0) Reply.Done (Reply.Refused MaxTableSizeReached)
-pushReply c NoRoom = Reply.Done
-pushReply c Full = Reply.Refused CountTooLarge
-pushReply c Push.BadCall = Reply.Refused BadCall
 
 abbrev pub putBy : Table → Pushed → Replied
 putBy t p = answer (withRing (p .ring) t) (pushReply (t .ring .capacity) (p .push))
@@ -242,10 +225,6 @@ begin t stream = whenClosed t (answer (withSection true (t .ring .inserted - t .
 unfoldable pub abandon : Table → Replied
 abandon t = whenOpen t (answer (withSection false (t .base) (t .section) t) Reply.Done)
 
--- "if the largest reference is above the known received count it counts one blocked section"
-abbrev pub countedWith : Waiting → ℕ → ℕ → Counted
-countedWith w known largest = cond (leb largest known) (record { fits = true; waiting = w }) (blocking w largest)
-
 abbrev pub queuedWith : Table → Counted → Queue → Replied
 queuedWith t w q = cond (w .fits) (answer (committed q (w .waiting) t) Reply.Done) (no t TrackingFull)
 
@@ -256,13 +235,6 @@ commitPlace t largest q =
 unfoldable pub commit : Table → ℕ → Replied
 commit t largest =
     whenOpen t (cond (ltb (t .ring .inserted) largest) (no t BadLargest) (commitPlace t largest (queueing (t .queue) (t .section))))
-
--- one more use of an entry in a section
-abbrev pub notedIn : Section → ℕ → Noted
-notedIn s x = noting (s .uses) (s .used) (x - s .from)
-
-abbrev pub withUses : Section → Noted → Section
-withUses s r = record { stream = s .stream; from = s .from; used = r .used; uses = r .uses }
 
 abbrev pub withNoted : Noted → Table → Table
 withNoted r t = withSection (t .active) (t .base) (withUses (t .section) r) t
@@ -304,45 +276,6 @@ nameAt t (some k) = nameTo t (t .ring .dropped + k + 1) (notedIn (t .section) (t
 
 unfoldable pub notInserted : Table → List ℕ → List ℕ → List ℕ → Inserting
 notInserted t a n v = orElse (lowestName n) (λ i. notMade t (Static i)) (nameAt t (latestOf t a n v false))
-
--- what names the new entry: d is how many entries are gone once room is made
-abbrev pub latestAfter : Ring → ℕ → List ℕ → List ℕ → List ℕ → Bool → Option ℕ
-latestAfter r d a n v whole =
-    lastOf (matches n v whole) (map (fieldOf a) (between (r .starts) (r .names) (r .values) d (r .inserted)))
-
-unfoldable pub originAfter : Ring → ℕ → List ℕ → List ℕ → List ℕ → Origin
-originAfter r d a n v =
-    orElse (latestAfter r d a n v true) (λ k. equalEntry (d + k + 1))
-    (orElse (lowestName n) staticName (orElse (latestAfter r d a n v false) (λ k. namedEntry (d + k + 1)) plain))
-
-abbrev pub originOf : Naming → Origin
-originOf (EqualEntry x) = equalEntry x
-originOf (StaticName i) = staticName i
-originOf (NamedEntry x) = namedEntry x
-originOf Plain = plain
-
--- the older entry lies below a new one, and above a number
-abbrev pub OlderThan : ℕ → Naming → Type 0
-OlderThan a (EqualEntry x) = x < a
-OlderThan a (StaticName i) = Unit {0}
-OlderThan a (NamedEntry x) = x < a
-OlderThan a Plain = Unit {0}
-
-abbrev pub NewerThan : ℕ → Naming → Type 0
-NewerThan d (EqualEntry x) = d < x
-NewerThan d (StaticName i) = Unit {0}
-NewerThan d (NamedEntry x) = d < x
-NewerThan d Plain = Unit {0}
-
--- the new entry's use, and an older one's too
-abbrev pub noteAlso : Section → ℕ → Noted → Noted
-noteAlso s x r = cond (r .fits) (notedIn (withUses s r) x) r
-
-abbrev pub notedFor : Section → ℕ → Origin → Noted
-notedFor s a (equalEntry x) = noteAlso s x (notedIn s a)
-notedFor s a (staticName i) = notedIn s a
-notedFor s a (namedEntry x) = noteAlso s x (notedIn s a)
-notedFor s a plain = notedIn s a
 
 abbrev pub insertedWith : Table → Pushed → Origin → Noted → Inserting
 insertedWith t p w u =

@@ -8,8 +8,8 @@ use Rattle.answers.specs.Answer.{Answer, done, refused, andThen}
 use Rattle.answers.specs.declared.Refusal.the-variants.{UnexpectedEnd, InvalidStaticIndex, MissingRefs}
 use Rattle.arena.specs.Ring.{ringRead}
 use Rattle.block.specs.Lines.{FieldLine, indexed, named, literal, lineAt}
-use Rattle.block.specs.declared.Reference.{Reference}
-use Rattle.block.specs.declared.Reference.the-variants.{Static, Relative, PostBase}
+use Rattle.line_writing.specs.declared.Reference.{Reference}
+use Rattle.line_writing.specs.declared.Reference.the-variants.{Static, Relative, PostBase}
 use Rattle.field.specs.Field.{Field}
 use Rattle.forms.specs.Forms.{lineKind}
 use Rattle.forms.specs.declared.HeaderBlockField.{HeaderBlockField}

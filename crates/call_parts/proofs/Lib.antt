@@ -1,0 +1,3 @@
+pub mod Naming
+pub mod Opening
+pub mod Searched
