@@ -1,8 +1,8 @@
--- What the calls are made of, over the parts of a record: tests of a capacity, a put's answer, a section's uses, what names a new entry.
+-- What the calls are made of, over the parts of a record: tests of a capacity, a put's answer, the open section.
 use mathlib.Core.Bool.{Bool, true, false, _&&_, cond}
-use mathlib.Core.List.{List, map}
+use mathlib.Core.List.{List}
 use mathlib.Core.Option.{Option, some, none}
-use Prim.Native.Nat.{ℕ, _+_, _-_, _<_}
+use Prim.Native.Nat.{ℕ, _+_}
 use lib.Dec.{leb, ltb, eqb}
 use Rattle.answers.specs.declared.Refusal.{Refusal}
 use Rattle.answers.specs.declared.Refusal.the-variants.{MaxTableSizeReached, MaximumTableSizeTooLarge, AboveLentRoom, BadCall, CountTooLarge}
@@ -10,24 +10,18 @@ use Rattle.answers.specs.declared.Reply.{Reply}
 use Rattle.blocked.specs.Waiting.{blocking}
 use Rattle.blocked.specs.declared.Counted.{Counted}
 use Rattle.blocked.specs.declared.Waiting.{Waiting}
-use Rattle.entries.specs.Entry.{slots, between, fieldOf}
-use Rattle.entries.specs.Latest.{lastOf, matches}
+use Rattle.entries.specs.Entry.{slots}
 use Rattle.model.specs.Bounds.{largestCapacity, lentRoom}
-use Rattle.model.specs.Insert.{Origin, equalEntry, staticName, namedEntry, plain, orElse}
 use Rattle.model.specs.Table as model
 use Rattle.ring.specs.declared.Push.{Push}
 use Rattle.ring.specs.declared.Push.the-variants.{Made, TooLarge, NoRoom, Full}
-use Rattle.ring.specs.declared.Ring.{Ring}
-use Rattle.static_table.specs.Static.{lowestName}
 use Rattle.tracking.specs.Queue.{sectionLive, lowest}
-use Rattle.tracking.specs.Uses.{noting, usesOf}
+use Rattle.tracking.specs.Uses.{usesOf}
 use Rattle.tracking.specs.declared.Floor.{Floor}
 use Rattle.tracking.specs.declared.Noted.{Noted}
 use Rattle.tracking.specs.declared.Section.{Section}
 use Rattle.call_parts.specs.declared.CapacityTest.{CapacityTest}
 use Rattle.call_parts.specs.declared.CapacityTest.the-variants.{Within}
-use Rattle.call_parts.specs.declared.Origin.{Origin as Naming}
-use Rattle.call_parts.specs.declared.Origin.the-variants.{EqualEntry, StaticName, NamedEntry, Plain}
 
 -- ---- an open section
 
@@ -45,7 +39,7 @@ openFloor active base s d i low =
     (cond (openRules base s d i) (record { live = true; low = lowest low (usesHere s) }) (record { live = false; low = low }))
     (record { live = true; low = low })
 
--- ---- answers, uses and names
+-- ---- answers and uses
 
 -- "9: capacity above 1,073,741,823. 10: capacity 16,385 to 1,073,741,823"
 abbrev pub tested : CapacityTest → Option Refusal
@@ -67,48 +61,6 @@ pushReply c Push.BadCall = Reply.Refused BadCall
 abbrev pub countedWith : Waiting → ℕ → ℕ → Counted
 countedWith w known largest = cond (leb largest known) (record { fits = true; waiting = w }) (blocking w largest)
 
--- one more use of an entry in a section
-abbrev pub notedIn : Section → ℕ → Noted
-notedIn s x = noting (s .uses) (s .used) (x - s .from)
-
+-- a section with other uses
 abbrev pub withUses : Section → Noted → Section
 withUses s r = record { stream = s .stream; from = s .from; used = r .used; uses = r .uses }
-
--- what names the new entry: d is how many entries are gone once room is made
-abbrev pub latestAfter : Ring → ℕ → List ℕ → List ℕ → List ℕ → Bool → Option ℕ
-latestAfter r d a n v whole =
-    lastOf (matches n v whole) (map (fieldOf a) (between (r .starts) (r .names) (r .values) d (r .inserted)))
-
-unfoldable pub originAfter : Ring → ℕ → List ℕ → List ℕ → List ℕ → Origin
-originAfter r d a n v =
-    orElse (latestAfter r d a n v true) (λ k. equalEntry (d + k + 1))
-    (orElse (lowestName n) staticName (orElse (latestAfter r d a n v false) (λ k. namedEntry (d + k + 1)) plain))
-
-abbrev pub originOf : Naming → Origin
-originOf (EqualEntry x) = equalEntry x
-originOf (StaticName i) = staticName i
-originOf (NamedEntry x) = namedEntry x
-originOf Plain = plain
-
--- the older entry lies below a new one, and above a number
-abbrev pub OlderThan : ℕ → Naming → Type 0
-OlderThan a (EqualEntry x) = x < a
-OlderThan a (StaticName i) = Unit {0}
-OlderThan a (NamedEntry x) = x < a
-OlderThan a Plain = Unit {0}
-
-abbrev pub NewerThan : ℕ → Naming → Type 0
-NewerThan d (EqualEntry x) = d < x
-NewerThan d (StaticName i) = Unit {0}
-NewerThan d (NamedEntry x) = d < x
-NewerThan d Plain = Unit {0}
-
--- the new entry's use, and an older one's too
-abbrev pub noteAlso : Section → ℕ → Noted → Noted
-noteAlso s x r = cond (r .fits) (notedIn (withUses s r) x) r
-
-abbrev pub notedFor : Section → ℕ → Origin → Noted
-notedFor s a (equalEntry x) = noteAlso s x (notedIn s a)
-notedFor s a (staticName i) = notedIn s a
-notedFor s a (namedEntry x) = noteAlso s x (notedIn s a)
-notedFor s a plain = notedIn s a

@@ -22,7 +22,7 @@ use Rattle.header_prefix.specs.Prefix as prefix
 use Rattle.header_prefix.specs.declared.PrefixRead.{PrefixRead}
 use Rattle.prefix_int.specs.Integer as integer
 use Rattle.prefix_int.specs.declared.IntRead.{IntRead}
-use Rattle.prefix_int.specs.declared.IntSize.{IntSize}
+use Rattle.int_writing.specs.declared.IntSize.{IntSize}
 use Rattle.prefix_string.specs.Text as text
 use Rattle.prefix_string.specs.declared.TextRead.{TextRead}
 use Rattle.running.specs.Run.{Whole}

@@ -4,10 +4,12 @@ pub mod Free
 pub mod Fresh
 pub mod Insertions
 pub mod Made
+pub mod Naming
 pub mod Notes
 pub mod Putting
 pub mod Refer
 pub mod Reports
+pub mod Searched
 pub mod Sections
 pub mod Sentences
 pub mod Setting

@@ -56,12 +56,14 @@ use Rattle.tracking.specs.declared.Section.{Section}
 use Rattle.blocked.specs.declared.Waiting.{Waiting}
 use Rattle.dynamic.specs.declared.Inserting.{Inserting}
 use Rattle.dynamic.specs.declared.Looked.{Looked}
+use Rattle.dynamic.specs.declared.Origin.{Origin as Naming}
+use Rattle.dynamic.specs.declared.Origin.the-variants.{EqualEntry, StaticName, NamedEntry, Plain}
 use Rattle.dynamic.specs.declared.Replied.{Replied}
 use Rattle.dynamic.specs.declared.Table.{Table}
 use Rattle.dynamic.specs.Record.{sound, usable, lowestUsed}
 -- the parts that need no record
-unfoldable pub use Rattle.call_parts.specs.Parts.{capacityAnswer, pushReply, originAfter}
-pub use Rattle.call_parts.specs.Parts.{tested, countedWith, notedIn, withUses, latestAfter, originOf, OlderThan, NewerThan, noteAlso, notedFor}
+unfoldable pub use Rattle.call_parts.specs.Parts.{capacityAnswer, pushReply}
+pub use Rattle.call_parts.specs.Parts.{tested, countedWith, withUses}
 
 -- ---- the record with some fields set
 
@@ -236,6 +238,10 @@ unfoldable pub commit : Table → ℕ → Replied
 commit t largest =
     whenOpen t (cond (ltb (t .ring .inserted) largest) (no t BadLargest) (commitPlace t largest (queueing (t .queue) (t .section))))
 
+-- one more use of an entry in a section
+abbrev pub notedIn : Section → ℕ → Noted
+notedIn s x = noting (s .uses) (s .used) (x - s .from)
+
 abbrev pub withNoted : Noted → Table → Table
 withNoted r t = withSection (t .active) (t .base) (withUses (t .section) r) t
 
@@ -276,6 +282,45 @@ nameAt t (some k) = nameTo t (t .ring .dropped + k + 1) (notedIn (t .section) (t
 
 unfoldable pub notInserted : Table → List ℕ → List ℕ → List ℕ → Inserting
 notInserted t a n v = orElse (lowestName n) (λ i. notMade t (Static i)) (nameAt t (latestOf t a n v false))
+
+-- what names the new entry: d is how many entries are gone once room is made
+abbrev pub latestAfter : Ring → ℕ → List ℕ → List ℕ → List ℕ → Bool → Option ℕ
+latestAfter r d a n v whole =
+    lastOf (matches n v whole) (map (fieldOf a) (between (r .starts) (r .names) (r .values) d (r .inserted)))
+
+unfoldable pub originAfter : Ring → ℕ → List ℕ → List ℕ → List ℕ → Origin
+originAfter r d a n v =
+    orElse (latestAfter r d a n v true) (λ k. equalEntry (d + k + 1))
+    (orElse (lowestName n) staticName (orElse (latestAfter r d a n v false) (λ k. namedEntry (d + k + 1)) plain))
+
+abbrev pub originOf : Naming → Origin
+originOf (EqualEntry x) = equalEntry x
+originOf (StaticName i) = staticName i
+originOf (NamedEntry x) = namedEntry x
+originOf Plain = plain
+
+-- the older entry lies below a new one, and above a number
+abbrev pub OlderThan : ℕ → Naming → Type 0
+OlderThan a (EqualEntry x) = x < a
+OlderThan a (StaticName i) = Unit {0}
+OlderThan a (NamedEntry x) = x < a
+OlderThan a Plain = Unit {0}
+
+abbrev pub NewerThan : ℕ → Naming → Type 0
+NewerThan d (EqualEntry x) = d < x
+NewerThan d (StaticName i) = Unit {0}
+NewerThan d (NamedEntry x) = d < x
+NewerThan d Plain = Unit {0}
+
+-- the new entry's use, and an older one's too
+abbrev pub noteAlso : Section → ℕ → Noted → Noted
+noteAlso s x r = cond (r .fits) (notedIn (withUses s r) x) r
+
+abbrev pub notedFor : Section → ℕ → Origin → Noted
+notedFor s a (equalEntry x) = noteAlso s x (notedIn s a)
+notedFor s a (staticName i) = notedIn s a
+notedFor s a (namedEntry x) = noteAlso s x (notedIn s a)
+notedFor s a plain = notedIn s a
 
 abbrev pub insertedWith : Table → Pushed → Origin → Noted → Inserting
 insertedWith t p w u =

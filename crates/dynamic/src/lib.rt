@@ -1,11 +1,13 @@
 // The dynamic table, RFC 9204 3.2: its record, the calls on it, the open section and the peer's reports.
 ghost use mathlib.Core.Path.{_≡_};
 ghost use mathlib.Core.Bool.{true};
-ghost use Prim.Native.Nat.{_+_, _-_, _<_};
+ghost use Prim.Native.Nat.{_+_, _-_, _≤_, _<_, _^_};
 ghost use Rattle.arena.specs.Ring.{longEnough};
 ghost use Rattle.model.specs.Drop as model-table;
+ghost use Rattle.model.specs.Insert as model-insert;
 ghost use Rattle.model.specs.Report as model-report;
 ghost use Rattle.model.specs.Section as model-section;
+ghost use Rattle.ring.specs.Ring.{largestCount};
 ghost use Rattle.dynamic.specs.Calls as calls;
 ghost use Rattle.dynamic.specs.Promise.{Keeps, Puts, Finds, Inserts};
 ghost use Rattle.dynamic.specs.Record.{sound, checking};
@@ -17,14 +19,9 @@ use answers::Refusal;
 use answers::Reply;
 use arena::RING;
 pub use call_parts::CapacityTest;
-pub use call_parts::Origin;
 pub use call_parts::capacity_test;
-use call_parts::insertion_of;
 use call_parts::lookup_of;
-use call_parts::note;
-use call_parts::note_origin;
 use call_parts::open_floor;
-use call_parts::origin_of;
 pub use call_parts::push_reply;
 use call_parts::waiting_with;
 use call_parts::with_uses;
@@ -40,6 +37,7 @@ use ring::Ring;
 use ring::Source;
 use static_table::StaticFound;
 use tracking::Held;
+use tracking::Noted;
 use tracking::Queue;
 use tracking::Section;
 use tracking::Value;
@@ -83,8 +81,89 @@ pub struct Checked {
     pub low: usize,
 }
 
+// What names a new entry: an older one by its absolute index, or the static table.
+pub enum Origin {
+    EqualEntry(usize),
+    StaticName(usize),
+    NamedEntry(usize),
+    Plain,
+}
+
 // Larger than any entry's index.
 const NOTHING_USED: usize = 18446744073709551615;
+
+// How a new entry is written.
+fn insertion_of(base: usize, absolute: usize, origin: Origin) -> Insertion
+    requires { ⌜ (base < absolute) × calls.OlderThan absolute origin ⌝ }
+    ensures { λ r. ⌜ r ≡ model-insert.insertionOf base absolute (calls.originOf origin) ⌝ }
+{
+    let postbase = absolute - base - 1;
+    match origin {
+        Origin::EqualEntry(older) => Insertion::Duplicated {
+            relative: absolute - older - 1,
+            postbase,
+            absolute,
+        },
+        Origin::StaticName(index) => Insertion::InsertedWithStaticNameRef {
+            postbase,
+            index,
+            absolute,
+        },
+        Origin::NamedEntry(older) => Insertion::InsertedWithNameRef {
+            postbase,
+            relative: absolute - older - 1,
+            absolute,
+        },
+        Origin::Plain => Insertion::Inserted { postbase, absolute },
+    }
+}
+
+// What names a new entry, once the entries up to gone are dropped.
+fn origin_of(ring: Ring, arena: &[u8], gone: usize, name: &[u8], value: &[u8]) -> Origin
+    requires { ⌜ (ring .inserted ≤ largestCount) × (gone ≤ ring .inserted) × (longEnough (now arena) ≡ true) ⌝ }
+    ensures { λ r. ⌜ calls.originOf r ≡ calls.originAfter ring gone (now (arena .entry)) (now (name .entry)) (now (value .entry)) ⌝ }
+    ensures { λ r. ⌜ calls.OlderThan (ring .inserted + 1) r × calls.NewerThan gone r ⌝ }
+{
+    let equal = ring.newest(arena, gone, name, value, true);
+    if let Latest::At(k) = equal {
+        return Origin::EqualEntry(gone + k + 1);
+    }
+    let fixed = static_table::find_name(name);
+    if let StaticFound::At(i) = fixed {
+        return Origin::StaticName(i);
+    }
+    let named = ring.newest(arena, gone, name, value, false);
+    if let Latest::At(k) = named {
+        return Origin::NamedEntry(gone + k + 1);
+    }
+    Origin::Plain
+}
+
+// A section's uses with one more of an entry.
+fn note(section: Section, entry: usize) -> Noted
+    requires { ⌜ (section .from ≤ entry) × (entry - section .from < 2 ^ 16) ⌝ }
+    ensures { λ r. ⌜ r ≡ calls.notedIn section entry ⌝ }
+{
+    let uses = section.uses;
+    tracking::note(uses, section.used, (entry - section.from) as u16)
+}
+
+// The uses of a section that inserts: the new entry's, and an older one's too where that names it.
+fn note_origin(section: Section, absolute: usize, origin: Origin) -> Noted
+    requires { ⌜ (section .from ≤ absolute) × (absolute - section .from < 2 ^ 16) × calls.OlderThan absolute origin × calls.NewerThan (section .from) origin ⌝ }
+    ensures { λ r. ⌜ r ≡ calls.notedFor section absolute (calls.originOf origin) ⌝ }
+{
+    let first = note(section, absolute);
+    if !first.fits {
+        return first;
+    }
+    match origin {
+        Origin::EqualEntry(older) => note(with_uses(section, first), older),
+        Origin::StaticName(_) => first,
+        Origin::NamedEntry(older) => note(with_uses(section, first), older),
+        Origin::Plain => first,
+    }
+}
 
 impl Table {
     // A table with nothing in it, and no room.

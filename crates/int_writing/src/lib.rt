@@ -4,22 +4,28 @@ ghost use Prim.Native.Nat.{_+_, _-_, _*_, _^_, _≤_, _<_};
 ghost use lib.ListN.{length};
 ghost use lib.Seq.{sets};
 ghost use Rattle.answers.specs.Write.{Writes};
-ghost use Rattle.int_writing.specs.Octets.{spell, encode, intBytes, goodCall};
+ghost use Rattle.int_writing.specs.Octets.{spell, encode, intBytes, goodCall, sizeOf, intSize};
 use answers::Refusal;
 use answers::Written;
 
+// How many bytes an integer takes.
+pub enum IntSize {
+    Bytes(usize),
+    Refused(Refusal),
+}
+
 // The first value that no writer takes.
-pub const VALUE_LIMIT: u64 = 0x8000_0000_0000_0000;
+const VALUE_LIMIT: u64 = 0x8000_0000_0000_0000;
 
 // A byte as a u64.
-pub fn wide(x: u8) -> u64
+fn wide(x: u8) -> u64
     ensures { λ r. ⌜ r ≡ x ⌝ }
 {
     x as u64
 }
 
 // 2 to the k.
-pub fn power(k: u32) -> u64
+fn power(k: u32) -> u64
     requires { ⌜ k ≤ 8 ⌝ }
     ensures { λ r. ⌜ (r ≡ 2 ^ k) × (1 ≤ r) × (r ≤ 256) ⌝ }
 {
@@ -39,7 +45,7 @@ fn spelled(rest: u64) -> usize
 }
 
 // How many bytes a value takes.
-pub fn bytes_of(value: u64, width: u32) -> usize
+fn bytes_of(value: u64, width: u32) -> usize
     requires { ⌜ (width ≤ 8) × (value < 2 ^ 63) ⌝ }
     ensures { λ r. ⌜ (r ≡ length (encode width 0 value)) × (r ≤ 11) ⌝ }
 {
@@ -61,6 +67,19 @@ pub fn call_ok(width: u32, flags: u8) -> bool
         return false;
     }
     wide(flags) < power(8 - width)
+}
+
+// How many bytes an integer takes, before any is written.
+pub fn size(value: u64, width: u32) -> IntSize
+    ensures { λ r. ⌜ intSize r ≡ sizeOf width value ⌝ }
+{
+    if !call_ok(width, 0) {
+        return IntSize::Refused(Refusal::BadCall);
+    }
+    if VALUE_LIMIT <= value {
+        return IntSize::Refused(Refusal::CountTooLarge);
+    }
+    IntSize::Bytes(bytes_of(value, width))
 }
 
 // The groups of a rest, written from a position.

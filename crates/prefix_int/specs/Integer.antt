@@ -8,11 +8,9 @@ use Rattle.answers.specs.Answer.{Answer, done, refused, andThen}
 use Rattle.answers.specs.declared.Refusal.the-variants.{UnexpectedEnd, Overflow, BadCall}
 use Rattle.prefix_int.specs.declared.IntRead.{IntRead}
 use Rattle.prefix_int.specs.declared.IntRead.the-variants.{Int}
-use Rattle.prefix_int.specs.declared.IntSize.{IntSize}
-use Rattle.prefix_int.specs.declared.IntSize.the-variants.{Bytes}
 -- the bytes of an integer
 unfoldable pub use Rattle.int_writing.specs.Octets.{spell, encode}
-pub use Rattle.int_writing.specs.Octets.{goodCall, intBytes}
+pub use Rattle.int_writing.specs.Octets.{goodCall, intBytes, sizeOf, intSize}
 
 -- an integer that was read: the bits above its prefix, its value, and the position past it
 pub record Integer : Type 0 where
@@ -46,11 +44,3 @@ intAt s at n = cond (ltb n 1) (refused BadCall) (cond (ltb 8 n) (refused BadCall
 abbrev pub intRead : IntRead → Answer Integer
 intRead (Int f v e) = done (record { flags = f; value = v; next = e })
 intRead (IntRead.Refused r) = refused r
-
--- "how many bytes an integer takes is answered before any is written"
-abbrev pub sizeOf : ℕ → ℕ → Answer ℕ
-sizeOf n v = andThen (intBytes n 0 v) (λ bytes. done (length bytes))
-
-abbrev pub intSize : IntSize → Answer ℕ
-intSize (Bytes n) = done n
-intSize (IntSize.Refused r) = refused r

@@ -1,16 +1,14 @@
 // Prefix integers, RFC 7541 5.1: a value that starts in the low bits of a byte and goes on, where it
 // does not fit there, in groups of 7 bits, lowest first.
 ghost use mathlib.Core.Path.{_≡_};
-ghost use Prim.Native.Nat.{_<_};
+ghost use Prim.Native.Nat.{_^_, _≤_, _<_};
 ghost use lib.ListN.{drop};
-ghost use Rattle.prefix_int.specs.Integer.{groups, intAt, sizeOf, intRead, intSize};
+ghost use Rattle.prefix_int.specs.Integer.{groups, intAt, intRead};
 use answers::Refusal;
-use int_writing::VALUE_LIMIT;
-use int_writing::bytes_of;
-use int_writing::power;
-use int_writing::wide;
 // The writing half stands in a crate of its own, so that an edit of one half checks that half alone.
+pub use int_writing::IntSize;
 pub use int_writing::call_ok;
+pub use int_writing::size;
 pub use int_writing::write;
 
 // What reading at a position finds.
@@ -20,10 +18,19 @@ pub enum IntRead {
     Refused(Refusal),
 }
 
-// How many bytes an integer takes.
-pub enum IntSize {
-    Bytes(usize),
-    Refused(Refusal),
+// A byte as a u64.
+fn wide(x: u8) -> u64
+    ensures { λ r. ⌜ r ≡ x ⌝ }
+{
+    x as u64
+}
+
+// 2 to the k.
+fn power(k: u32) -> u64
+    requires { ⌜ k ≤ 8 ⌝ }
+    ensures { λ r. ⌜ (r ≡ 2 ^ k) × (1 ≤ r) × (r ≤ 256) ⌝ }
+{
+    1u64 << k
 }
 
 // The groups that follow a full prefix.
@@ -80,17 +87,4 @@ pub fn read(s: &[u8], at: usize, width: u32) -> IntRead
         };
     }
     rest(s, at + 1, flags, p - 1)
-}
-
-// How many bytes an integer takes, before any is written.
-pub fn size(value: u64, width: u32) -> IntSize
-    ensures { λ r. ⌜ intSize r ≡ sizeOf width value ⌝ }
-{
-    if !call_ok(width, 0) {
-        return IntSize::Refused(Refusal::BadCall);
-    }
-    if VALUE_LIMIT <= value {
-        return IntSize::Refused(Refusal::CountTooLarge);
-    }
-    IntSize::Bytes(bytes_of(value, width))
 }

@@ -53,44 +53,57 @@ returns-4 c =
     let e = c .before .before in
     rw (is-open (called e .before), live e, le-leb _ _ (c .before .if3 .left), lt-leb _ _ (c .if4 .taken))
 
-add-if5 : tie.Need-add-if5
-add-if5 c =
+floors : (e : tie.Else2)
+    → Opened (called e .before .before .args .base) (called e .before .before .args .section) (called e .before .before .args .dropped) (called e .before .before .args .inserted)
+    → called e .section-floor .result
+    ≡ openFloor (called e .before .before .args .active) (called e .before .before .args .base) (called e .before .before .args .section)
+    (called e .before .before .args .dropped) (called e .before .before .args .inserted) (called e .before .before .args .low)
+floors e rules =
+    called e .section-floor .ensures
+    ∙ section-low _ _ _ _ (live e)
+    ∙ open-found _ _ _ _ _ _ (is-open (called e .before)) (is-opened _ _ _ _ rules)
+
+returns-5 : tie.Need-returns-5
+returns-5 c =
     let e = c .before .before .before in
+    let a = called e .before .before .args in
+    let within : a .inserted ≤ a .section .from + slots + a .section .used = omega arith in
+    floors e (record { live = live e; base-within = c .before .before .if3 .left; from-low = c .before .if4 .left; every = within })
+
+add-if6 : tie.Need-add-if6
+add-if6 c =
+    let e = c .before .before .before .before in
     let a = called e .before .before .args in
     omega (arith, few-uses (a .dropped) (a .inserted) (a .section) (live e))
 
-sub-if5 : tie.Need-sub-if5
-sub-if5 c = search needs
+sub-if6 : tie.Need-sub-if6
+sub-if6 c = search needs
 
-returns-5 : tie.Need-returns-5
+returns-6 : tie.Need-returns-6
 unfolding openFloor
-returns-5 c =
-    let e = c .before .before .before .before in
+returns-6 c =
+    let e = c .before .before .before .before .before in
     let a = called e .before .before .args in
     let over : a .section .from + slots + a .section .used < a .inserted = omega arith in
     rw (
       is-open (called e .before),
       live e,
-      le-leb _ _ (c .before .before .before .if3 .left),
-      le-leb _ _ (c .before .before .if4 .left),
+      le-leb _ _ (c .before .before .before .before .if3 .left),
+      le-leb _ _ (c .before .before .before .if4 .left),
       lt-leb _ _ over,
     )
 
-returns-6 : tie.Need-returns-6
-returns-6 c =
-    let e = c .before .before .before .before in
+returns-7 : tie.Need-returns-7
+returns-7 c =
+    let e = c .before .before .before .before .before in
     let a = called e .before .before .args in
     let within : a .inserted ≤ a .section .from + slots + a .section .used = omega arith in
-    let rules : Opened (a .base) (a .section) (a .dropped) (a .inserted) =
-    record {
+    floors e (record {
       live = live e;
-      base-within = c .before .before .before .if3 .left;
-      from-low = c .before .before .if4 .left;
+      base-within = c .before .before .before .before .if3 .left;
+      from-low = c .before .before .before .if4 .left;
       every = within;
-    } in
-    called e .section-floor .ensures
-    ∙ section-low _ _ _ _ (live e)
-    ∙ open-found _ _ _ _ _ _ (is-open (called e .before)) (is-opened _ _ _ _ rules)
+    })
 
 pub open-floor-spec : {M : Type 1} → statement M
 open-floor-spec =
@@ -101,7 +114,8 @@ open-floor-spec =
     returns-2
     returns-3
     returns-4
-    add-if5
-    sub-if5
     returns-5
-    returns-6)
+    add-if6
+    sub-if6
+    returns-6
+    returns-7)

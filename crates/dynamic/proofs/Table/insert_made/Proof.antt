@@ -14,7 +14,7 @@ use Rattle.ring.specs.declared.Source.the-variants.{Given}
 use Rattle.dynamic.specs.Calls.{OlderThan, NewerThan, originOf, withRing}
 use Rattle.dynamic.specs.Record.{lowestUsed}
 use Rattle.dynamic.proofs.Made.{Shape, new, Counts, counts, made-full, made-over, made-new, refused-bytes, new-bytes, room-tells, pushes-new, pushes-bytes}
-use Rattle.call_parts.proofs.Naming.{newer-more}
+use Rattle.dynamic.proofs.Naming.{newer-more}
 use Rattle.dynamic.proofs.Sound.{Sound, facts}
 use Rattle.dynamic.proofs.Table.insert_made.Statement.{statement}
 use Rattle.dynamic.proofs.Table.insert_made.Tie as tie

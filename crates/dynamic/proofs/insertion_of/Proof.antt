@@ -1,11 +1,11 @@
--- `call_parts::insertion_of`: by what names the new entry; an older entry lies below it. Assumes nothing.
+-- `dynamic::insertion_of`: by what names the new entry; an older entry lies below it. Assumes nothing.
 use Prim.Native.Nat.{_<_}
 use native.Mathlib.Omega.{arith}
 use borrow.Author.Needs.{needs}
-use Rattle.call_parts.specs.Parts.{OlderThan}
-use Rattle.call_parts.specs.declared.Origin.the-variants.{EqualEntry, NamedEntry}
-use Rattle.call_parts.proofs.insertion_of.Statement.{statement}
-use Rattle.call_parts.proofs.insertion_of.Tie as tie
+use Rattle.dynamic.specs.Calls.{OlderThan}
+use Rattle.dynamic.specs.declared.Origin.the-variants.{EqualEntry, NamedEntry}
+use Rattle.dynamic.proofs.insertion_of.Statement.{statement}
+use Rattle.dynamic.proofs.insertion_of.Tie as tie
 
 -- the older entry that names the new one lies below it
 equal : (c : tie.After-known-told) → c .before .origin .given .0 .0 < c .before .before .before .args .absolute

@@ -1,15 +1,15 @@
--- `call_parts::note_origin`: the new entry's use, then the older one's where one names it. Assumes nothing.
+-- `dynamic::note_origin`: the new entry's use, then the older one's where one names it. Assumes nothing.
 use mathlib.Core.Path.{ap, _∙_}
 use Prim.Native.Nat.{_<_}
 use native.Mathlib.Omega.{arith}
 use borrow.Author.Needs.{needs}
 use borrow.Author.Tests.{not-true, not-false}
 use Rattle.tracking.specs.declared.Section.{Section}
-use Rattle.call_parts.specs.Parts.{OlderThan, NewerThan, notedIn, originOf}
-use Rattle.call_parts.specs.declared.Origin.the-variants.{EqualEntry, NamedEntry}
-use Rattle.call_parts.proofs.Naming.{noted-not, noted-also}
-use Rattle.call_parts.proofs.note_origin.Statement.{statement}
-use Rattle.call_parts.proofs.note_origin.Tie as tie
+use Rattle.dynamic.specs.Calls.{OlderThan, NewerThan, notedIn, originOf}
+use Rattle.dynamic.specs.declared.Origin.the-variants.{EqualEntry, NamedEntry}
+use Rattle.dynamic.proofs.Naming.{noted-not, noted-also}
+use Rattle.dynamic.proofs.note_origin.Statement.{statement}
+use Rattle.dynamic.proofs.note_origin.Tie as tie
 
 -- the older entry that names the new one
 equal : (c : tie.After-origin)

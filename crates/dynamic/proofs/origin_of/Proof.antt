@@ -1,4 +1,4 @@
--- `call_parts::origin_of`: an equal entry, else a name of the static table, else an entry of that name. Assumes nothing.
+-- `dynamic::origin_of`: an equal entry, else a name of the static table, else an entry of that name. Assumes nothing.
 use mathlib.Core.Path.{_≡_, sym, ap, _∙_}
 use mathlib.Core.Bool.{true, false}
 use mathlib.Core.Option.{some, none}
@@ -7,11 +7,11 @@ use native.Mathlib.Omega.{arith}
 use borrow.Author.Needs.{needs}
 use denote.Ref.{now}
 use Rattle.static_table.specs.Static.{found, lowestName}
-use Rattle.call_parts.specs.Parts.{latestAfter}
-use Rattle.call_parts.proofs.Naming.{names-equal, names-static, names-named, names-plain}
-use Rattle.call_parts.proofs.Searched.{found-within, found-at, found-none}
-use Rattle.call_parts.proofs.origin_of.Statement.{statement}
-use Rattle.call_parts.proofs.origin_of.Tie as tie
+use Rattle.dynamic.specs.Calls.{latestAfter}
+use Rattle.dynamic.proofs.Naming.{names-equal, names-static, names-named, names-plain}
+use Rattle.dynamic.proofs.Searched.{found-within, found-at, found-none}
+use Rattle.dynamic.proofs.origin_of.Statement.{statement}
+use Rattle.dynamic.proofs.origin_of.Tie as tie
 
 -- ---- what the searches found
 

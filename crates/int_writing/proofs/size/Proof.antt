@@ -1,14 +1,14 @@
--- `prefix_int::size`: each return rewrites with the tests that led there. Assumes nothing.
+-- `int_writing::size`: each return rewrites with the tests that led there. Assumes nothing.
 use mathlib.Core.Path.{_≡_, sym, ap, _∙_}
 use mathlib.Core.Bool.{true}
 use native.Mathlib.Omega.{arith}
 use borrow.Author.Tests.{not-true, not-false}
 use borrow.Author.Needs.{needs}
 use Rattle.answers.specs.Answer.{done}
-use Rattle.prefix_int.specs.Integer.{goodCall}
+use Rattle.int_writing.specs.Octets.{goodCall}
 use Rattle.int_writing.proofs.Writing.{call-good, bytes-bad, bytes-large, bytes-good}
-use Rattle.prefix_int.proofs.size.Statement.{statement}
-use Rattle.prefix_int.proofs.size.Tie as tie
+use Rattle.int_writing.proofs.size.Statement.{statement}
+use Rattle.int_writing.proofs.size.Tie as tie
 
 good : (c : tie.Else1) → goodCall (c .before .before .args .width) 0 ≡ true
 good c = sym (c .before .call-ok .ensures) ∙ not-false _ (c .if1 .left)

@@ -10,9 +10,9 @@ use Rattle.ring.specs.declared.Ring.{Ring}
 use Rattle.static_table.specs.Static.{lowestName}
 use Rattle.tracking.specs.declared.Noted.{Noted}
 use Rattle.tracking.specs.declared.Section.{Section}
-use Rattle.call_parts.specs.Parts.{latestAfter, originAfter, notedIn, withUses, noteAlso, notedFor, NewerThan}
-use Rattle.call_parts.specs.declared.Origin.{Origin as Naming}
-use Rattle.call_parts.specs.declared.Origin.the-variants.{EqualEntry, StaticName, NamedEntry, Plain}
+use Rattle.dynamic.specs.Calls.{latestAfter, originAfter, notedIn, withUses, noteAlso, notedFor, NewerThan}
+use Rattle.dynamic.specs.declared.Origin.{Origin as Naming}
+use Rattle.dynamic.specs.declared.Origin.the-variants.{EqualEntry, StaticName, NamedEntry, Plain}
 
 module _ (r : Ring) (gone : ℕ) (a n v : List ℕ) where
   pub names-equal : (k : ℕ) → latestAfter r gone a n v true ≡ some k → equalEntry (gone + k + 1) ≡ originAfter r gone a n v

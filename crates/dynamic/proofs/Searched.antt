@@ -13,7 +13,7 @@ use Rattle.entries.proofs.Between.{length-fields}
 use Rattle.entries.proofs.Last.{some-is-last}
 use Rattle.field.specs.Field.{Field}
 use Rattle.ring.specs.declared.Ring.{Ring}
-use Rattle.call_parts.specs.Parts.{latestAfter}
+use Rattle.dynamic.specs.Calls.{latestAfter}
 
 abbrev pub fieldsAfter : Ring → ℕ → List ℕ → List Field
 fieldsAfter r gone a = map (fieldOf a) (between (r .starts) (r .names) (r .values) gone (r .inserted))
