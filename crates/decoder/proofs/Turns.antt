@@ -6,7 +6,7 @@ use Prim.Native.Nat.{ℕ, zero, suc, _+_, _-_, _≤_, _<_}
 use native.Mathlib.Omega.{arith}
 use lib.ListN.{length, set, length-set}
 use lib.Seq.{sets}
-use Rattle.decoder.specs.Section.{Reader, start, lineOf, bytesAt, outOf, Section, sectionOf, readFrom, readAll}
+use Rattle.decoder.specs.Section.{Reader, start, lineOf, bytesAt, outOf, sectionOf, readFrom, readAll}
 use Rattle.section_steps.specs.declared.Cursor.{Cursor}
 use Rattle.section_steps.specs.declared.Field.{Field}
 use Rattle.section_steps.specs.declared.Line.{Line}

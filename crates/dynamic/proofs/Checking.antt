@@ -5,10 +5,8 @@ use Prim.Native.Nat.{ℕ, _≤_, _<_}
 use borrow.Author.Tests.{le-leb, lt-ltb}
 use Rattle.model.specs.Bounds.{blockedSections}
 use Rattle.ring.specs.Ring.{largestCount, keeps}
-use Rattle.tracking.specs.Queue.{sectionLive, sectionFloor, queueFloor, lowest, noFloor}
+use Rattle.tracking.specs.Queue.{queueFloor, lowest}
 use Rattle.blocked.specs.Waiting.{keepsCount}
-use Rattle.tracking.specs.declared.Floor.{Floor}
-use Rattle.tracking.specs.declared.Section.{Section}
 use Rattle.dynamic.specs.Record.{usesHere, openRules, openKeeps, queueKeeps, sound}
 use Rattle.dynamic.specs.Record.{nothingUsed, lowestQueued, lowestUsed, openFloor, checking}
 use Rattle.call_parts.proofs.Opening.{floorBy, live-by}

@@ -1,23 +1,13 @@
 -- A search of a table and a use noted in its open section: what was found is live, the model agrees, and the rules are kept. Assumes nothing.
-use mathlib.Core.Path.{_≡_, refl, sym, _∙_}
-use mathlib.Core.Bool.{Bool, true, cond}
-use mathlib.Core.List.{List, map}
+use mathlib.Core.Path.{_≡_, refl, _∙_}
+use mathlib.Core.Bool.{true, cond}
 use mathlib.Core.Option.{some, none}
 use Prim.Native.Nat.{ℕ, _+_, _-_, _^_, _≤_, _<_}
 use native.Mathlib.Omega.{arith}
 use lib.ListN.{length}
-use Rattle.arena.specs.Ring.{longEnough}
-use Rattle.entries.specs.Entry.{noEntry, between, fieldOf}
-use Rattle.entries.specs.Latest.{matches, latest}
-use Rattle.entries.specs.declared.Latest.{Latest}
-use Rattle.entries.specs.declared.Latest.the-variants.{At, Nothing}
-use Rattle.entries.proofs.Between.{length-fields}
-use Rattle.entries.proofs.Last.{some-is-last}
-use Rattle.field.specs.Field.{Field}
 use Rattle.model.specs.Bounds.{sectionEntries}
 use Rattle.model.specs.Section.{note}
 use Rattle.ring.specs.Ring.{largestCount}
-use Rattle.ring.specs.declared.Ring.{Ring}
 use Rattle.ring.proofs.Keeping.{kept}
 use Rattle.tracking.specs.Queue.{sectionLive}
 use Rattle.tracking.specs.declared.Section.{Section}

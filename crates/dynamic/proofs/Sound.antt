@@ -1,19 +1,17 @@
 -- The rules of a record as facts, and back. Assumes nothing.
 use mathlib.Core.Path.{_≡_}
 use mathlib.Core.Bool.{true, false}
-use Prim.Native.Nat.{ℕ, _+_, _≤_, _<_}
-use lib.Dec.{leb, ltb}
+use Prim.Native.Nat.{_≤_, _<_}
+use lib.Dec.{leb}
 use lib.ListN.{take}
 use borrow.Author.Tests.{leb-true, ltb-true, le-leb, lt-ltb}
-use Rattle.entries.specs.Entry.{slots}
 use Rattle.entries.proofs.Chain.{and-left, and-right}
 use Rattle.model.specs.Bounds.{blockedSections, queuePlaces}
 use Rattle.ring.specs.Ring.{largestCount, keeps}
-use Rattle.tracking.specs.Queue.{sectionLive, allSectionsLive}
+use Rattle.tracking.specs.Queue.{allSectionsLive}
 use Rattle.blocked.specs.Waiting.{keepsCount}
-use Rattle.tracking.specs.declared.Section.{Section}
 use Rattle.call_parts.proofs.Opening.{Opened, opened, is-opened}
-use Rattle.dynamic.specs.Record.{openRules, openKeeps, queueKeeps, countsWithin, sound}
+use Rattle.dynamic.specs.Record.{openKeeps, queueKeeps, countsWithin, sound}
 use Rattle.dynamic.specs.declared.Table.{Table}
 
 pub record Sound (t : Table) : Type 0 where

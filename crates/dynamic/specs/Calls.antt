@@ -4,7 +4,7 @@ use mathlib.Core.List.{List, map, _++_}
 use mathlib.Core.Option.{Option, some, none}
 use mathlib.Core.Path.{_≡_}
 use Prim.Native.Nat.{ℕ, _+_, _-_, _<_}
-use lib.Dec.{leb, ltb, eqb}
+use lib.Dec.{leb, ltb}
 use lib.ListN.{length, replicate}
 use Rattle.answers.specs.declared.Find.{Find}
 use Rattle.answers.specs.declared.Find.the-variants.{Found}
@@ -14,41 +14,25 @@ use Rattle.answers.specs.declared.Insertion.the-variants.{NotInserted}
 use Rattle.answers.specs.declared.Lookup.{Lookup}
 use Rattle.answers.specs.declared.Lookup.the-variants.{Static, NotFound}
 use Rattle.answers.specs.declared.Refusal.{Refusal}
-use Rattle.answers.specs.declared.Refusal.the-variants.{
-  MaxTableSizeReached,
-  MaximumTableSizeTooLarge,
-  AboveLentRoom,
-  MaxBlockedStreamsTooLarge,
-  UnknownStreamId,
-  ShrinkBlocked,
-  SectionOpen,
-  NoSection,
-  TrackingFull,
-  BadLargest,
-  BadCall,
-  CountTooLarge,
-}
+use Rattle.answers.specs.declared.Refusal.the-variants.{MaxBlockedStreamsTooLarge, UnknownStreamId, ShrinkBlocked, SectionOpen, NoSection, TrackingFull, BadLargest, BadCall, CountTooLarge}
 use Rattle.answers.specs.declared.Reply.{Reply}
 use Rattle.arena.specs.Ring.{ringWrite}
 use Rattle.entries.specs.Entry.{slots, between, fieldOf}
 use Rattle.entries.specs.Latest.{lastOf, matches}
 use Rattle.entries.specs.declared.Room.{Room}
-use Rattle.model.specs.Bounds.{sectionEntries, queuePlaces, blockedValues, blockedSections, largestCapacity, lentRoom}
+use Rattle.model.specs.Bounds.{sectionEntries, queuePlaces, blockedValues, blockedSections}
 use Rattle.model.specs.Insert.{Origin, equalEntry, staticName, namedEntry, plain, orElse, insertionOf}
 use Rattle.model.specs.Section.{lookupOf}
 use Rattle.ring.specs.Ring.{largestCount, fieldsOf, roomFor, pushing, cutting}
 use Rattle.ring.specs.declared.Cut.{Cut}
-use Rattle.ring.specs.declared.Push.{Push}
-use Rattle.ring.specs.declared.Push.the-variants.{Made, TooLarge, NoRoom, Full}
 use Rattle.ring.specs.declared.Pushed.{Pushed}
 use Rattle.ring.specs.declared.Ring.{Ring}
 use Rattle.ring.specs.declared.Source.the-variants.{Given}
 use Rattle.static_table.specs.Static.{lowestName}
 use Rattle.tracking.specs.Queue.{noSection, pushing as queueing, releasing}
 use Rattle.tracking.specs.Uses.{noHeld, noting}
-use Rattle.blocked.specs.Waiting.{noValue, blocking, letGo}
+use Rattle.blocked.specs.Waiting.{noValue, letGo}
 use Rattle.blocked.specs.declared.Counted.{Counted}
-use Rattle.tracking.specs.declared.Held.{Held}
 use Rattle.tracking.specs.declared.Noted.{Noted}
 use Rattle.tracking.specs.declared.Queue.{Queue}
 use Rattle.tracking.specs.declared.Queued.{Queued}

@@ -2,19 +2,15 @@
 use mathlib.Core.Bool.{Bool, true, false, _&&_, cond}
 use mathlib.Core.List.{List}
 use mathlib.Core.Option.{Option, some, none}
-use Prim.Native.Nat.{ℕ, _+_, _-_, _^_}
+use Prim.Native.Nat.{ℕ, _-_, _^_}
 use lib.Dec.{leb, ltb}
 use lib.ListN.{take}
 use Rattle.arena.specs.Ring.{longEnough}
-use Rattle.entries.specs.Entry.{slots}
 use Rattle.model.specs.Bounds.{blockedSections, queuePlaces}
 use Rattle.model.specs.Table as model
 use Rattle.ring.specs.Ring.{largestCount, fieldsOf, keeps}
-use Rattle.tracking.specs.Queue.{sectionsOf, sectionLive, lowest, lowestOfAll, allSectionsLive}
-use Rattle.tracking.specs.Uses.{usesOf}
+use Rattle.tracking.specs.Queue.{sectionsOf, lowest, lowestOfAll, allSectionsLive}
 use Rattle.blocked.specs.Waiting.{waitingOf, keepsCount}
-use Rattle.tracking.specs.declared.Floor.{Floor}
-use Rattle.tracking.specs.declared.Section.{Section}
 use Rattle.dynamic.specs.declared.Checked.{Checked}
 use Rattle.dynamic.specs.declared.Table.{Table}
 -- the open section's rules and floor, which need no record
