@@ -42,8 +42,8 @@ use Rattle.block.specs.Lines.{
   namedBytes,
   literalBytes,
 }
-use Rattle.block.specs.declared.Reference.{Reference}
-use Rattle.block.specs.declared.Reference.the-variants.{Static, Relative, PostBase}
+use Rattle.line_writing.specs.declared.Reference.{Reference}
+use Rattle.line_writing.specs.declared.Reference.the-variants.{Static, Relative, PostBase}
 use Rattle.block.proofs.Laws.{line-by-kind}
 
 -- the line at a position, by its kind

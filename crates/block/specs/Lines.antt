@@ -1,13 +1,12 @@
 -- The field lines of RFC 9204 4.5, each by itself: what a reader finds at a position, and the bytes that a writer writes.
 use mathlib.Core.Bool.{Bool, true, false, cond}
 use mathlib.Core.List.{List}
-use Prim.Native.Nat.{ℕ, _/_, _%_}
+use Prim.Native.Nat.{ℕ, _%_}
 use lib.Dec.{leb, eqb}
 use lib.ListN.{length, getD}
 use Rattle.answers.specs.Answer.{Answer, done, refused, andThen}
 use Rattle.answers.specs.declared.Refusal.the-variants.{UnexpectedEnd}
-use Rattle.forms.specs.Forms.{formOf, headOf, lineKind}
-use Rattle.forms.specs.declared.Head.{Head}
+use Rattle.forms.specs.Forms.{formOf, lineKind}
 use Rattle.forms.specs.declared.HeaderBlockField.{HeaderBlockField}
 use Rattle.forms.specs.declared.HeaderBlockField.the-variants.{
   LiteralWithPostBaseNameRef,
@@ -17,11 +16,14 @@ use Rattle.forms.specs.declared.HeaderBlockField.the-variants.{
   Indexed,
 }
 use Rattle.forms.specs.declared.Kind.the-variants.{Line}
-use Rattle.prefix_int.specs.Integer.{Integer, intAt, intBytes}
-use Rattle.shapes.specs.Shapes.{IntText, TwoTexts, textAfter, textsAt, intTextBytes, textsBytes}
+use Rattle.prefix_int.specs.Integer.{intAt}
+use Rattle.shapes.specs.Shapes.{textAfter, textsAt}
 use Rattle.block.specs.declared.LineRead.{LineRead}
-use Rattle.block.specs.declared.Reference.{Reference}
-use Rattle.block.specs.declared.Reference.the-variants.{Static, Relative, PostBase}
+use Rattle.line_writing.specs.declared.Reference.{Reference}
+use Rattle.line_writing.specs.declared.Reference.the-variants.{Static, Relative, PostBase}
+-- the bytes of a line
+unfoldable pub use Rattle.line_writing.specs.Bytes.{indexedBytes, namedBytes, literalBytes}
+pub use Rattle.line_writing.specs.Bytes.{indexOf, indexedHead, namedHead}
 
 -- a line: a whole field by its index; a name by its index and a value; or a name and a value. Positions and lengths are those of the strings;
 -- the last number is the position past the line
@@ -70,31 +72,3 @@ lineRead (LineRead.Indexed r e) = done (indexed r e)
 lineRead (LineRead.Named r v n e) = done (named r v n e)
 lineRead (LineRead.Literal a m b n e) = done (literal a m b n e)
 lineRead (LineRead.Refused r) = refused r
-
--- ---- writing
-
-abbrev pub indexOf : Reference → ℕ
-indexOf (Static i) = i
-indexOf (Relative i) = i
-indexOf (PostBase i) = i
-
-abbrev pub indexedHead : Reference → Head
-indexedHead (Static i) = headOf (Line Indexed) true
-indexedHead (Relative i) = headOf (Line Indexed) false
-indexedHead (PostBase i) = headOf (Line IndexedWithPostBase) false
-
--- N, "never indexed", is not set
-abbrev pub namedHead : Reference → Head
-namedHead (Static i) = headOf (Line LiteralWithNameRef) true
-namedHead (Relative i) = headOf (Line LiteralWithNameRef) false
-namedHead (PostBase i) = headOf (Line LiteralWithPostBaseNameRef) false
-
-unfoldable pub indexedBytes : Reference → Answer (List ℕ)
-indexedBytes r = intBytes (indexedHead r .width) (indexedHead r .flags) (indexOf r)
-
-unfoldable pub namedBytes : Reference → List ℕ → Answer (List ℕ)
-namedBytes r v = intTextBytes (namedHead r .width) (namedHead r .flags) (indexOf r) v
-
--- H stands between the pattern and the length
-unfoldable pub literalBytes : List ℕ → List ℕ → Answer (List ℕ)
-literalBytes n v = textsBytes (headOf (Line Literal) false .width) (headOf (Line Literal) false .flags / 2) n v

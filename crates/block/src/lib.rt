@@ -1,6 +1,5 @@
 // The five field lines, RFC 9204 4.5, each read and written by itself.
 ghost use mathlib.Core.Path.{_≡_};
-ghost use Rattle.answers.specs.Write.{Writes};
 ghost use Rattle.block.specs.Lines.{
   referenceOf,
   indexedLine,
@@ -8,28 +7,17 @@ ghost use Rattle.block.specs.Lines.{
   literalLine,
   lineAt,
   lineRead,
-  indexOf,
-  indexedHead,
-  namedHead,
-  indexedBytes,
-  namedBytes,
-  literalBytes,
 };
 use answers::Refusal;
-use answers::Written;
-use forms::Head;
 use forms::HeaderBlockField;
 use forms::Kind;
+pub use line_writing::Reference;
+pub use line_writing::write_indexed;
+pub use line_writing::write_literal;
+pub use line_writing::write_named;
 use prefix_int::IntRead;
 use shapes::IntTextRead;
 use shapes::TextsRead;
-
-// Which entry a line names.
-pub enum Reference {
-    Static(u64),
-    Relative(u64),
-    PostBase(u64),
-}
 
 // A line: a whole field by its index, a name by its index and a value, or both strings; and the position past it.
 pub enum LineRead {
@@ -148,74 +136,4 @@ pub fn read_line(s: &[u8], at: usize) -> LineRead
         HeaderBlockField::LiteralWithNameRef => read_named(s, at, kind, false),
         HeaderBlockField::Indexed => read_indexed(s, at, kind, false),
     }
-}
-
-// The number in a reference.
-fn index_of(entry: Reference) -> u64
-    ensures { λ r. ⌜ r ≡ indexOf entry ⌝ }
-{
-    match entry {
-        Reference::Static(i) => i,
-        Reference::Relative(i) => i,
-        Reference::PostBase(i) => i,
-    }
-}
-
-// The first integer's head for a line that is one index.
-fn indexed_head(entry: Reference) -> Head
-    ensures { λ r. ⌜ r ≡ indexedHead entry ⌝ }
-{
-    match entry {
-        Reference::Static(_) => forms::head_of(Kind::Line(HeaderBlockField::Indexed), true),
-        Reference::Relative(_) => forms::head_of(Kind::Line(HeaderBlockField::Indexed), false),
-        Reference::PostBase(_) => forms::head_of(
-            Kind::Line(HeaderBlockField::IndexedWithPostBase),
-            false,
-        ),
-    }
-}
-
-// The first integer's head for a line with a name by its index.
-fn named_head(entry: Reference) -> Head
-    ensures { λ r. ⌜ r ≡ namedHead entry ⌝ }
-{
-    match entry {
-        Reference::Static(_) => forms::head_of(
-            Kind::Line(HeaderBlockField::LiteralWithNameRef),
-            true,
-        ),
-        Reference::Relative(_) => forms::head_of(
-            Kind::Line(HeaderBlockField::LiteralWithNameRef),
-            false,
-        ),
-        Reference::PostBase(_) => forms::head_of(
-            Kind::Line(HeaderBlockField::LiteralWithPostBaseNameRef),
-            false,
-        ),
-    }
-}
-
-// A line that is one index.
-pub fn write_indexed(buf: &mut [u8], at: usize, field: Reference) -> Written
-    ensures { λ r. ⌜ Writes (indexedBytes field) (now (buf .entry)) at r (now (buf .exit)) ⌝ }
-{
-    let head = indexed_head(field);
-    prefix_int::write(buf, at, head.width, head.flags, index_of(field))
-}
-
-// A line with a name by its index, and a value.
-pub fn write_named(buf: &mut [u8], at: usize, name: Reference, value: &[u8]) -> Written
-    ensures { λ r. ⌜ Writes (namedBytes name (now (value .entry))) (now (buf .entry)) at r (now (buf .exit)) ⌝ }
-{
-    let head = named_head(name);
-    shapes::write_int_text(buf, at, head.width, head.flags, index_of(name), value)
-}
-
-// A line with both strings.
-pub fn write_literal(buf: &mut [u8], at: usize, name: &[u8], value: &[u8]) -> Written
-    ensures { λ r. ⌜ Writes (literalBytes (now (name .entry)) (now (value .entry))) (now (buf .entry)) at r (now (buf .exit)) ⌝ }
-{
-    let head = forms::head_of(Kind::Line(HeaderBlockField::Literal), false);
-    // The string's flags stand above H.
-    shapes::write_texts(buf, at, head.width, head.flags / 2, name, value)
 }

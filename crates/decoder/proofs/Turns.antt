@@ -6,12 +6,12 @@ use Prim.Native.Nat.{ℕ, zero, suc, _+_, _-_, _≤_, _<_}
 use native.Mathlib.Omega.{arith}
 use lib.ListN.{length, set, length-set}
 use lib.Seq.{sets}
-use Rattle.decoder.specs.Section.{Reader, start, lineOf, bytesAt, outOf, Section, sectionOf, readFrom, readAll}
-use Rattle.decoder.specs.declared.Cursor.{Cursor}
-use Rattle.decoder.specs.declared.Field.{Field}
-use Rattle.decoder.specs.declared.Line.{Line}
-use Rattle.decoder.proofs.Going.{Goes, line-goes}
-use Rattle.decoder.proofs.Stepping.{has-started, same-at}
+use Rattle.decoder.specs.Section.{Reader, start, lineOf, bytesAt, outOf, sectionOf, readFrom, readAll}
+use Rattle.section_steps.specs.declared.Cursor.{Cursor}
+use Rattle.section_steps.specs.declared.Field.{Field}
+use Rattle.section_steps.specs.declared.Line.{Line}
+use Rattle.section_steps.proofs.Going.{Goes, line-goes}
+use Rattle.section_steps.proofs.Stepping.{has-started, same-at}
 
 -- ---- the steps from a cursor on, by how the first one ends
 

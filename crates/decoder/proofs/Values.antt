@@ -8,18 +8,18 @@ use denote.Laws.{Is}
 use denote.Slice.{sliceTy}
 use denote.Struct.Laws as LL
 use Rattle.decoder.specs.Section.{start}
-use Rattle.decoder.specs.declared.Field.{Field}
-use Rattle.decoder.specs.declared.Cursor.{Cursor}
-use Rattle.decoder.specs.declared.Decoded.{Decoded}
-use Rattle.decoder.specs.declared.Line.{Line}
-use Rattle.decoder.proofs.Field as F
-use Rattle.decoder.proofs.Field.Laws as F′
-use Rattle.decoder.proofs.Cursor as C
-use Rattle.decoder.proofs.Cursor.Laws as C′
-use Rattle.decoder.proofs.Decoded as D
-use Rattle.decoder.proofs.Decoded.Laws as D′
-use Rattle.decoder.proofs.Line as L
-use Rattle.decoder.proofs.Line.Laws as L′
+use Rattle.section_steps.specs.declared.Field.{Field}
+use Rattle.section_steps.specs.declared.Cursor.{Cursor}
+use Rattle.section_steps.specs.declared.Decoded.{Decoded}
+use Rattle.section_steps.specs.declared.Line.{Line}
+use Rattle.section_steps.proofs.Field as F
+use Rattle.section_steps.proofs.Field.Laws as F′
+use Rattle.section_steps.proofs.Cursor as C
+use Rattle.section_steps.proofs.Cursor.Laws as C′
+use Rattle.section_steps.proofs.Decoded as D
+use Rattle.section_steps.proofs.Decoded.Laws as D′
+use Rattle.section_steps.proofs.Line as L
+use Rattle.section_steps.proofs.Line.Laws as L′
 
 abbrev pub field-val : Field → Val
 field-val = LL.val F.the-type F′.the-laws

@@ -26,9 +26,9 @@ use Rattle.ring.specs.Ring.{largestCount}
 use Rattle.running.specs.Run.{Whole, Ended, ends, run, runAll, unlessOpen}
 use Rattle.running.proofs.Run.{run-over, run-cut, run-bad, run-refused, run-on, seen, Shows, run-shown, run-good}
 use Rattle.tracking.specs.Queue.{releasing}
-use Rattle.tracking.specs.Waiting.{letGo}
-use Rattle.tracking.specs.declared.Waiting.{Waiting}
-use Rattle.tracking.proofs.Blocked.{let-go-length}
+use Rattle.blocked.specs.Waiting.{letGo}
+use Rattle.blocked.specs.declared.Waiting.{Waiting}
+use Rattle.blocked.proofs.Blocked.{let-go-length}
 use Rattle.tracking.proofs.Sections.{released-places}
 use Rattle.decoder_stream.specs.Reports.{
   Report,

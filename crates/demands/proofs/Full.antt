@@ -26,13 +26,13 @@ use Rattle.ring.proofs.Keeping.{Arrays}
 use Rattle.static_table.specs.Static.{lowestName}
 use Rattle.tracking.specs.Queue.{pushing as queueing, releasing}
 use Rattle.tracking.specs.Uses.{noHeld, noting, placeOf}
-use Rattle.tracking.specs.Waiting.{blocking}
-use Rattle.tracking.specs.declared.Counted.{Counted}
+use Rattle.blocked.specs.Waiting.{blocking}
+use Rattle.blocked.specs.declared.Counted.{Counted}
 use Rattle.tracking.specs.declared.Held.{Held as HeldUse}
 use Rattle.tracking.specs.declared.Noted.{Noted}
 use Rattle.tracking.specs.declared.Queued.{Queued}
 use Rattle.tracking.specs.declared.Section.{Section}
-use Rattle.tracking.proofs.Blocked.{blocking-values, let-go-length}
+use Rattle.blocked.proofs.Blocked.{blocking-values, let-go-length}
 use Rattle.tracking.proofs.Sections.{released-places, pushed-places}
 use Rattle.demands.proofs.Tests.{either, when-closed, when-open}
 

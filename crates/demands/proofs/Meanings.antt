@@ -15,14 +15,14 @@ use Rattle.block.specs.declared.LineRead.{LineRead}
 use Rattle.decoder_stream.specs.Reports as reports
 use Rattle.decoder_stream.specs.declared.ReportRead.{ReportRead}
 use Rattle.dynamic.specs.Calls.{tested}
-use Rattle.dynamic.specs.declared.CapacityTest.{CapacityTest}
+use Rattle.call_parts.specs.declared.CapacityTest.{CapacityTest}
 use Rattle.entries.specs.Latest.{latest}
 use Rattle.entries.specs.declared.Latest.{Latest}
 use Rattle.header_prefix.specs.Prefix as prefix
 use Rattle.header_prefix.specs.declared.PrefixRead.{PrefixRead}
 use Rattle.prefix_int.specs.Integer as integer
 use Rattle.prefix_int.specs.declared.IntRead.{IntRead}
-use Rattle.prefix_int.specs.declared.IntSize.{IntSize}
+use Rattle.int_writing.specs.declared.IntSize.{IntSize}
 use Rattle.prefix_string.specs.Text as text
 use Rattle.prefix_string.specs.declared.TextRead.{TextRead}
 use Rattle.running.specs.Run.{Whole}

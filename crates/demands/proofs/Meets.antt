@@ -5,10 +5,10 @@ use Prim.Native.Nat.{ℕ}
 use lib.ListN.{length, drop}
 use Rattle.answers.specs.Table.{replied, inserted}
 use Rattle.decoder.specs.Section as section
-use Rattle.decoder.specs.declared.Cursor.{Cursor}
-use Rattle.decoder.specs.declared.Decoded.{Decoded}
-use Rattle.decoder.specs.declared.Field.{Field}
-use Rattle.decoder.specs.declared.Line.{Line}
+use Rattle.section_steps.specs.declared.Cursor.{Cursor}
+use Rattle.section_steps.specs.declared.Decoded.{Decoded}
+use Rattle.section_steps.specs.declared.Field.{Field}
+use Rattle.section_steps.specs.declared.Line.{Line}
 use Rattle.decoder_stream.specs.Reports as reports
 use Rattle.decoder_stream.specs.declared.Reported.{Reported}
 use Rattle.dynamic.specs.Calls as calls

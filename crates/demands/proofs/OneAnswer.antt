@@ -40,9 +40,9 @@ use Rattle.answers.specs.Table.{Done}
 use Rattle.answers.specs.Write.{Writes}
 use Rattle.answers.specs.declared.Written.{Written}
 use Rattle.decoder.specs.Section as section
-use Rattle.decoder.specs.declared.Cursor.{Cursor}
-use Rattle.decoder.specs.declared.Decoded.{Decoded}
-use Rattle.decoder.specs.declared.Line.{Line}
+use Rattle.section_steps.specs.declared.Cursor.{Cursor}
+use Rattle.section_steps.specs.declared.Decoded.{Decoded}
+use Rattle.section_steps.specs.declared.Line.{Line}
 use Rattle.decoder_stream.specs.Reports as reports
 use Rattle.decoder_stream.specs.declared.Reported.{Reported}
 use Rattle.dynamic.specs.Calls as calls
@@ -56,7 +56,7 @@ use Rattle.encoder_stream.specs.declared.Received.{Received}
 use Rattle.entries.specs.declared.Room.{Room}
 use Rattle.field.specs.Field.{Field}
 use Rattle.field_lines.specs.Line.{Read, fieldRead, entryRead}
-use Rattle.field_lines.specs.declared.EntryRead.{EntryRead}
+use Rattle.line_entries.specs.declared.EntryRead.{EntryRead}
 use Rattle.field_lines.specs.declared.FieldRead.{FieldRead}
 use Rattle.instructions.specs.Instruction.{Instruction, instructionRead}
 use Rattle.instructions.specs.declared.InstructionRead.{InstructionRead}

@@ -13,12 +13,12 @@ use Rattle.answers.specs.Answer.{Answer, done, refused}
 use Rattle.answers.specs.Table.{replied}
 use Rattle.arena.specs.Ring.{longEnough}
 use Rattle.block.specs.Lines.{FieldLine, indexed, named, literal, lineAt}
-use Rattle.block.specs.declared.Reference.{Reference}
+use Rattle.line_writing.specs.declared.Reference.{Reference}
 use Rattle.block.proofs.Rows.{line-row}
 use Rattle.decoder.specs.Section as section
-use Rattle.decoder.specs.declared.Cursor.{Cursor}
-use Rattle.decoder.specs.declared.Field.{Field}
-use Rattle.decoder.specs.declared.Line.{Line}
+use Rattle.section_steps.specs.declared.Cursor.{Cursor}
+use Rattle.section_steps.specs.declared.Field.{Field}
+use Rattle.section_steps.specs.declared.Line.{Line}
 use Rattle.dynamic.specs.Record.{sound, usable}
 use Rattle.dynamic.specs.declared.Table.{Table}
 use Rattle.dynamic.proofs.Sound.{facts}

@@ -10,9 +10,9 @@ use Rattle.answers.specs.declared.Insertion.{Insertion}
 use Rattle.answers.specs.declared.Lookup.{Lookup}
 use Rattle.arena.specs.Ring.{longEnough}
 use Rattle.decoder.specs.Section as section
-use Rattle.decoder.specs.declared.Cursor.{Cursor}
-use Rattle.decoder.specs.declared.Field.{Field}
-use Rattle.decoder.specs.declared.Line.{Line}
+use Rattle.section_steps.specs.declared.Cursor.{Cursor}
+use Rattle.section_steps.specs.declared.Field.{Field}
+use Rattle.section_steps.specs.declared.Line.{Line}
 use Rattle.decoder_stream.specs.Reports as reports
 use Rattle.dynamic.specs.Calls as calls
 use Rattle.dynamic.specs.declared.Inserting.{Inserting}

@@ -5,42 +5,13 @@ use Prim.Native.Nat.{ℕ, _≤_, _<_}
 use borrow.Author.Tests.{le-leb, lt-ltb}
 use Rattle.model.specs.Bounds.{blockedSections}
 use Rattle.ring.specs.Ring.{largestCount, keeps}
-use Rattle.tracking.specs.Queue.{sectionLive, sectionFloor, queueFloor, lowest, noFloor}
-use Rattle.tracking.specs.Waiting.{keepsCount}
-use Rattle.tracking.specs.declared.Floor.{Floor}
-use Rattle.tracking.specs.declared.Section.{Section}
+use Rattle.tracking.specs.Queue.{queueFloor, lowest}
+use Rattle.blocked.specs.Waiting.{keepsCount}
 use Rattle.dynamic.specs.Record.{usesHere, openRules, openKeeps, queueKeeps, sound}
 use Rattle.dynamic.specs.Record.{nothingUsed, lowestQueued, lowestUsed, openFloor, checking}
+use Rattle.call_parts.proofs.Opening.{floorBy, live-by}
 use Rattle.dynamic.specs.declared.Checked.{Checked}
 use Rattle.dynamic.specs.declared.Table.{Table}
-
-module _ (b : Bool) (low least : ℕ) where
-  -- a floor by whether the rules are kept
-  abbrev floorBy : Floor
-  floorBy = cond b (record { live = true; low = least }) (noFloor low)
-
-  live-by : (c : Bool) → b ≡ c → floorBy .live ≡ c
-  live-by true e = rw e
-  live-by false e = rw e
-
--- one section
-module _ (s : Section) (d i low : ℕ) where
-  pub section-lives : sectionFloor s d i low .live ≡ sectionLive d i s
-  unfolding sectionFloor
-  section-lives = live-by (sectionLive d i s) low (lowest low (usesHere s)) _ refl
-
-  pub section-low : sectionLive d i s ≡ true → sectionFloor s d i low ≡ record { live = true; low = lowest low (usesHere s) }
-  unfolding sectionFloor
-  section-low h = rw h
-
-  pub section-breaks : sectionLive d i s ≡ false → sectionFloor s d i low ≡ noFloor low
-  unfolding sectionFloor
-  section-breaks h = rw h
-
-pub open-found : (on : Bool) (base : ℕ) (s : Section) (d i low : ℕ) → on ≡ true → openRules base s d i ≡ true
-    → _≡_ {A = Floor} (record { live = true; low = lowest low (usesHere s) }) (openFloor on base s d i low)
-unfolding openFloor
-open-found on base s d i low e h = rw (e, h)
 
 -- a table's queue, and its open section
 module _ (t : Table) where

@@ -21,7 +21,8 @@ use Rattle.dynamic.specs.Promise.{outcome, Finds}
 use Rattle.dynamic.specs.Record.{usesHere, view, sound, usable}
 use Rattle.dynamic.specs.declared.Looked.{Looked}
 use Rattle.dynamic.specs.declared.Table.{Table}
-use Rattle.dynamic.proofs.Refer.{found-within, Refers, entryAt, noted-sound, noted-here}
+use Rattle.dynamic.proofs.Searched.{found-within}
+use Rattle.dynamic.proofs.Refer.{Refers, entryAt, noted-sound, noted-here}
 
 -- ---- the answer by the tests
 

@@ -7,7 +7,7 @@ use Rattle.entries.specs.Entry.{between}
 use Rattle.entries.specs.Rules.{keepsRules}
 use Rattle.model.specs.Table as model
 use Rattle.ring.specs.Ring.{keeps}
-use Rattle.tracking.specs.Waiting.{keepsCount}
+use Rattle.blocked.specs.Waiting.{keepsCount}
 use Rattle.dynamic.specs.Calls.{freshTable}
 use Rattle.dynamic.specs.Record.{sound, view}
 

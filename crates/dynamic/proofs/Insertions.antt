@@ -20,8 +20,8 @@ use Rattle.model.specs.Section as sections
 use Rattle.model.specs.Table.{Open, blockedCount}
 use Rattle.ring.specs.Ring.{roomFor, making}
 use Rattle.ring.proofs.Making.{roomAfter, roomFor-some, roomFor-none}
-use Rattle.tracking.specs.Waiting.{waitingOf}
-use Rattle.tracking.proofs.Blocked.{waiting-count}
+use Rattle.blocked.specs.Waiting.{waitingOf}
+use Rattle.blocked.proofs.Blocked.{waiting-count}
 use Rattle.dynamic.specs.Calls.{inserting, notInserted, made, madeOr, insertOpen, insert, bytesAfter}
 use Rattle.dynamic.specs.Promise.{Inserts}
 use Rattle.dynamic.specs.Record.{view, sound, usable, lowestUsed}

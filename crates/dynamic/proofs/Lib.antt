@@ -9,6 +9,7 @@ pub mod Notes
 pub mod Putting
 pub mod Refer
 pub mod Reports
+pub mod Searched
 pub mod Sections
 pub mod Sentences
 pub mod Setting

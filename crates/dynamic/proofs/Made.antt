@@ -51,8 +51,9 @@ use Rattle.dynamic.specs.declared.Table.{Table}
 use Rattle.dynamic.proofs.Finding.{openHere}
 use Rattle.dynamic.proofs.Free.{usesAt, still-above}
 use Rattle.dynamic.proofs.Notes.{within-more, origin-within, uses-one-more, both-live, both-in-model}
-use Rattle.dynamic.proofs.Refer.{fieldsAfter}
-use Rattle.dynamic.proofs.Sound.{Sound, is-sound, Opened, open-facts, open-keeps}
+use Rattle.dynamic.proofs.Searched.{fieldsAfter}
+use Rattle.call_parts.proofs.Opening.{Opened}
+use Rattle.dynamic.proofs.Sound.{Sound, is-sound, open-facts, open-keeps}
 use Rattle.dynamic.proofs.Staying.{queue-stays, section-stays}
 use Rattle.dynamic.proofs.Unmade.{last-name, Unmade}
 

@@ -21,11 +21,12 @@ use Rattle.tracking.specs.declared.Noted.{Noted}
 use Rattle.tracking.specs.declared.Section.{Section}
 use Rattle.tracking.proofs.Floors.{few-uses, uses-live}
 use Rattle.tracking.proofs.Flooring.{inserted}
-use Rattle.tracking.proofs.Lists.{and-left, and-right}
+use Rattle.blocked.proofs.Lists.{and-left, and-right}
 use Rattle.tracking.proofs.Uses.{used-few, noted-new}
 use Rattle.dynamic.specs.Calls.{latestAfter, originAfter, notedIn, withUses, noteAlso, notedFor}
 use Rattle.dynamic.specs.Record.{usesHere}
-use Rattle.dynamic.proofs.Refer.{found-within, note-is, still-long, not-fewer, note-live}
+use Rattle.dynamic.proofs.Searched.{found-within}
+use Rattle.dynamic.proofs.Refer.{note-is, still-long, not-fewer, note-live}
 
 -- ---- what names a new entry is above a number and at most another
 

@@ -1,51 +1,23 @@
 -- A search of a table and a use noted in its open section: what was found is live, the model agrees, and the rules are kept. Assumes nothing.
-use mathlib.Core.Path.{_≡_, refl, sym, _∙_}
-use mathlib.Core.Bool.{Bool, true, cond}
-use mathlib.Core.List.{List, map}
+use mathlib.Core.Path.{_≡_, refl, _∙_}
+use mathlib.Core.Bool.{true, cond}
 use mathlib.Core.Option.{some, none}
 use Prim.Native.Nat.{ℕ, _+_, _-_, _^_, _≤_, _<_}
 use native.Mathlib.Omega.{arith}
 use lib.ListN.{length}
-use Rattle.arena.specs.Ring.{longEnough}
-use Rattle.entries.specs.Entry.{noEntry, between, fieldOf}
-use Rattle.entries.specs.Latest.{matches, latest}
-use Rattle.entries.specs.declared.Latest.{Latest}
-use Rattle.entries.specs.declared.Latest.the-variants.{At, Nothing}
-use Rattle.entries.proofs.Between.{length-fields}
-use Rattle.entries.proofs.Last.{some-is-last}
-use Rattle.field.specs.Field.{Field}
 use Rattle.model.specs.Bounds.{sectionEntries}
 use Rattle.model.specs.Section.{note}
 use Rattle.ring.specs.Ring.{largestCount}
-use Rattle.ring.specs.declared.Ring.{Ring}
 use Rattle.ring.proofs.Keeping.{kept}
 use Rattle.tracking.specs.Queue.{sectionLive}
 use Rattle.tracking.specs.declared.Section.{Section}
 use Rattle.tracking.proofs.Floors.{live-use, few-uses, uses-live, section-live}
 use Rattle.tracking.proofs.Uses.{used-few, used-not-less, length-noted, noted-is, noted-live}
-use Rattle.dynamic.specs.Calls.{latestAfter, notedIn, withUses, withNoted}
+use Rattle.call_parts.proofs.Opening.{Opened}
+use Rattle.dynamic.specs.Calls.{notedIn, withUses, withNoted}
 use Rattle.dynamic.specs.Record.{usesHere, sound}
 use Rattle.dynamic.specs.declared.Table.{Table}
-use Rattle.dynamic.proofs.Sound.{facts, is-sound, Opened, open-facts, open-keeps}
-
--- ---- what a search found
-
-abbrev pub fieldsAfter : Ring → ℕ → List ℕ → List Field
-fieldsAfter r gone a = map (fieldOf a) (between (r .starts) (r .names) (r .values) gone (r .inserted))
-
-module _ (r : Ring) (a : List ℕ) (gone : ℕ) (n v : List ℕ) (whole : Bool) where
-  -- it is one of the entries that were searched
-  pub found-within : (k : ℕ) → latestAfter r gone a n v whole ≡ some k → k < r .inserted - gone
-  found-within k h =
-      rw (← length-fields (r .starts) (r .names) (r .values) gone (r .inserted) a)
-      (some-is-last (matches n v whole) (fieldOf a noEntry) (fieldsAfter r gone a) k h .within)
-
-  module _ (x : Latest) (long : longEnough a ≡ true) (told : latest x ≡ cond (longEnough a) (latestAfter r gone a n v whole) none) where
-    pub found-at : (k : ℕ) → x ≡ At k → latestAfter r gone a n v whole ≡ some k
-    found-at k e = sym (rw (long, e) at told)
-
-    pub found-none : x ≡ Nothing → latestAfter r gone a n v whole ≡ none
-    found-none e = sym (rw (long, e) at told)
+use Rattle.dynamic.proofs.Sound.{facts, is-sound, open-facts, open-keeps}
 
 -- ---- a use that is noted
 

@@ -16,7 +16,7 @@ use Rattle.ring.specs.Ring.{largestCount}
 use Rattle.tracking.specs.Queue.{sectionsOf, allSectionsLive, releasing}
 use Rattle.tracking.specs.declared.Queued.{Queued}
 use Rattle.tracking.proofs.Sections.{released-is, released-queued, released-live}
-use Rattle.tracking.proofs.Blocked.{let-go-is, let-go-keeps}
+use Rattle.blocked.proofs.Blocked.{let-go-is, let-go-keeps}
 use Rattle.dynamic.specs.Calls.{answer, no, withQueue, raised, release, increment}
 use Rattle.dynamic.specs.Promise.{outcome, Keeps}
 use Rattle.dynamic.specs.Record.{view, sound}

@@ -17,11 +17,11 @@ use Rattle.model.specs.Section as section
 use Rattle.model.specs.Table as model
 use Rattle.ring.proofs.Keeping.{kept, count-fields}
 use Rattle.tracking.specs.Queue.{sectionsOf, pushing}
-use Rattle.tracking.specs.Waiting.{waitingOf, blocking, keepsCount}
-use Rattle.tracking.specs.declared.Counted.{Counted}
+use Rattle.blocked.specs.Waiting.{waitingOf, blocking, keepsCount}
+use Rattle.blocked.specs.declared.Counted.{Counted}
 use Rattle.tracking.specs.declared.Queue.{Queue}
 use Rattle.tracking.specs.declared.Queued.{Queued}
-use Rattle.tracking.proofs.Blocked.{blocking-is, blocking-keeps}
+use Rattle.blocked.proofs.Blocked.{blocking-is, blocking-keeps}
 use Rattle.tracking.proofs.Sections.{length-sections, pushed-made, pushed-sections, pushed-queued, pushed-live}
 use Rattle.dynamic.specs.Calls.{answer, no, withSection, committed, newSection, begin, abandon, commit, commitPlace, queuedWith, countedWith}
 use Rattle.dynamic.specs.Promise.{outcome, Keeps}

@@ -1,18 +1,17 @@
 -- The rules of a record as facts, and back. Assumes nothing.
 use mathlib.Core.Path.{_≡_}
 use mathlib.Core.Bool.{true, false}
-use Prim.Native.Nat.{ℕ, _+_, _≤_, _<_}
-use lib.Dec.{leb, ltb}
+use Prim.Native.Nat.{_≤_, _<_}
+use lib.Dec.{leb}
 use lib.ListN.{take}
 use borrow.Author.Tests.{leb-true, ltb-true, le-leb, lt-ltb}
-use Rattle.entries.specs.Entry.{slots}
 use Rattle.entries.proofs.Chain.{and-left, and-right}
 use Rattle.model.specs.Bounds.{blockedSections, queuePlaces}
 use Rattle.ring.specs.Ring.{largestCount, keeps}
-use Rattle.tracking.specs.Queue.{sectionLive, allSectionsLive}
-use Rattle.tracking.specs.Waiting.{keepsCount}
-use Rattle.tracking.specs.declared.Section.{Section}
-use Rattle.dynamic.specs.Record.{openRules, openKeeps, queueKeeps, countsWithin, sound}
+use Rattle.tracking.specs.Queue.{allSectionsLive}
+use Rattle.blocked.specs.Waiting.{keepsCount}
+use Rattle.call_parts.proofs.Opening.{Opened, opened, is-opened}
+use Rattle.dynamic.specs.Record.{openKeeps, queueKeeps, countsWithin, sound}
 use Rattle.dynamic.specs.declared.Table.{Table}
 
 pub record Sound (t : Table) : Type 0 where
@@ -46,27 +45,6 @@ pub is-sound : (t : Table) → Sound t → sound t ≡ true
 unfolding sound
 is-sound t s =
     rw (s .ring, le-leb _ _ (s .known), lt-ltb _ _ (s .most), s .waiting, le-leb _ _ (s .queued), s .live) (s .section)
-
--- an open section
-pub record Opened (base : ℕ) (s : Section) (d i : ℕ) : Type 0 where
-  pub live : sectionLive d i s ≡ true
-  pub base-within : base ≤ i
-  pub from-low : s .from ≤ d
-  pub every : i ≤ s .from + slots + s .used
-
-pub opened : (base : ℕ) (s : Section) (d i : ℕ) → openRules base s d i ≡ true → Opened base s d i
-opened base s d i h =
-    let h1 = and-right (sectionLive d i s) _ h in
-    let h2 = and-right (leb base i) _ h1 in
-    record {
-      live = and-left (sectionLive d i s) _ h;
-      base-within = leb-true _ _ (and-left (leb base i) _ h1);
-      from-low = leb-true _ _ (and-left (leb (s .from) d) _ h2);
-      every = leb-true _ _ (and-right (leb (s .from) d) _ h2);
-    }
-
-pub is-opened : (base : ℕ) (s : Section) (d i : ℕ) → Opened base s d i → openRules base s d i ≡ true
-is-opened base s d i o = rw (o .live, le-leb _ _ (o .base-within), le-leb _ _ (o .from-low), le-leb _ _ (o .every))
 
 module _ (t : Table) where
   pub open-facts : Sound t → t .active ≡ true → Opened (t .base) (t .section) (t .ring .dropped) (t .ring .inserted)

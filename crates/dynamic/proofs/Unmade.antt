@@ -27,7 +27,8 @@ use Rattle.dynamic.specs.Promise.{outcome}
 use Rattle.dynamic.specs.Record.{usesHere, view, sound}
 use Rattle.dynamic.specs.declared.Inserting.{Inserting}
 use Rattle.dynamic.specs.declared.Table.{Table}
-use Rattle.dynamic.proofs.Refer.{found-within, Refers, entryAt, noted-sound, noted-here}
+use Rattle.dynamic.proofs.Searched.{found-within}
+use Rattle.dynamic.proofs.Refer.{Refers, entryAt, noted-sound, noted-here}
 use Rattle.dynamic.proofs.Finding.{openHere}
 
 -- ---- the answer by the searches

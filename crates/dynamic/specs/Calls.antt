@@ -4,7 +4,7 @@ use mathlib.Core.List.{List, map, _++_}
 use mathlib.Core.Option.{Option, some, none}
 use mathlib.Core.Path.{_≡_}
 use Prim.Native.Nat.{ℕ, _+_, _-_, _<_}
-use lib.Dec.{leb, ltb, eqb}
+use lib.Dec.{leb, ltb}
 use lib.ListN.{length, replicate}
 use Rattle.answers.specs.declared.Find.{Find}
 use Rattle.answers.specs.declared.Find.the-variants.{Found}
@@ -14,48 +14,30 @@ use Rattle.answers.specs.declared.Insertion.the-variants.{NotInserted}
 use Rattle.answers.specs.declared.Lookup.{Lookup}
 use Rattle.answers.specs.declared.Lookup.the-variants.{Static, NotFound}
 use Rattle.answers.specs.declared.Refusal.{Refusal}
-use Rattle.answers.specs.declared.Refusal.the-variants.{
-  MaxTableSizeReached,
-  MaximumTableSizeTooLarge,
-  AboveLentRoom,
-  MaxBlockedStreamsTooLarge,
-  UnknownStreamId,
-  ShrinkBlocked,
-  SectionOpen,
-  NoSection,
-  TrackingFull,
-  BadLargest,
-  BadCall,
-  CountTooLarge,
-}
+use Rattle.answers.specs.declared.Refusal.the-variants.{MaxBlockedStreamsTooLarge, UnknownStreamId, ShrinkBlocked, SectionOpen, NoSection, TrackingFull, BadLargest, BadCall, CountTooLarge}
 use Rattle.answers.specs.declared.Reply.{Reply}
 use Rattle.arena.specs.Ring.{ringWrite}
 use Rattle.entries.specs.Entry.{slots, between, fieldOf}
 use Rattle.entries.specs.Latest.{lastOf, matches}
 use Rattle.entries.specs.declared.Room.{Room}
-use Rattle.model.specs.Bounds.{sectionEntries, queuePlaces, blockedValues, blockedSections, largestCapacity, lentRoom}
+use Rattle.model.specs.Bounds.{sectionEntries, queuePlaces, blockedValues, blockedSections}
 use Rattle.model.specs.Insert.{Origin, equalEntry, staticName, namedEntry, plain, orElse, insertionOf}
 use Rattle.model.specs.Section.{lookupOf}
 use Rattle.ring.specs.Ring.{largestCount, fieldsOf, roomFor, pushing, cutting}
 use Rattle.ring.specs.declared.Cut.{Cut}
-use Rattle.ring.specs.declared.Push.{Push}
-use Rattle.ring.specs.declared.Push.the-variants.{Made, TooLarge, NoRoom, Full}
 use Rattle.ring.specs.declared.Pushed.{Pushed}
 use Rattle.ring.specs.declared.Ring.{Ring}
 use Rattle.ring.specs.declared.Source.the-variants.{Given}
 use Rattle.static_table.specs.Static.{lowestName}
 use Rattle.tracking.specs.Queue.{noSection, pushing as queueing, releasing}
 use Rattle.tracking.specs.Uses.{noHeld, noting}
-use Rattle.tracking.specs.Waiting.{noValue, blocking, letGo}
-use Rattle.tracking.specs.declared.Counted.{Counted}
-use Rattle.tracking.specs.declared.Held.{Held}
+use Rattle.blocked.specs.Waiting.{noValue, letGo}
+use Rattle.blocked.specs.declared.Counted.{Counted}
 use Rattle.tracking.specs.declared.Noted.{Noted}
 use Rattle.tracking.specs.declared.Queue.{Queue}
 use Rattle.tracking.specs.declared.Queued.{Queued}
 use Rattle.tracking.specs.declared.Section.{Section}
-use Rattle.tracking.specs.declared.Waiting.{Waiting}
-use Rattle.dynamic.specs.declared.CapacityTest.{CapacityTest}
-use Rattle.dynamic.specs.declared.CapacityTest.the-variants.{Within}
+use Rattle.blocked.specs.declared.Waiting.{Waiting}
 use Rattle.dynamic.specs.declared.Inserting.{Inserting}
 use Rattle.dynamic.specs.declared.Looked.{Looked}
 use Rattle.dynamic.specs.declared.Origin.{Origin as Naming}
@@ -63,6 +45,9 @@ use Rattle.dynamic.specs.declared.Origin.the-variants.{EqualEntry, Stati
 use Rattle.dynamic.specs.declared.Replied.{Replied}
 use Rattle.dynamic.specs.declared.Table.{Table}
 use Rattle.dynamic.specs.Record.{sound, usable, lowestUsed}
+-- the parts that need no record
+unfoldable pub use Rattle.call_parts.specs.Parts.{capacityAnswer, pushReply}
+pub use Rattle.call_parts.specs.Parts.{tested, countedWith, withUses}
 
 -- ---- the record with some fields set
 
@@ -196,14 +181,6 @@ freshTable =
 abbrev pub cutTo : Table → Cut → Replied
 cutTo t k = cond (k .made) (answer (withRing (k .ring) t) Reply.Done) (no t ShrinkBlocked)
 
--- "9: capacity above 1,073,741,823. 10: capacity 16,385 to 1,073,741,823"
-abbrev pub tested : CapacityTest → Option Refusal
-tested Within = none
-tested (CapacityTest.Refused r) = some r
-
-unfoldable pub capacityAnswer : ℕ → Option Refusal
-capacityAnswer c = cond (ltb largestCapacity c) (some MaximumTableSizeTooLarge) (cond (ltb lentRoom c) (some AboveLentRoom) none)
-
 abbrev pub cutUnless : Table → ℕ → Option Refusal → Replied
 cutUnless t c (some r) = no t r
 cutUnless t c none = cutTo t (cutting (t .ring) (lowestUsed t) c)
@@ -213,14 +190,6 @@ setCapacity t c = whenClosed t (cutUnless t c (capacityAnswer c))
 
 unfoldable pub setMost : Table → ℕ → Replied
 setMost t m = whenClosed t (cond (leb blockedSections m) (no t MaxBlockedStreamsTooLarge) (answer (withMost m t) Reply.Done))
-
--- what a put answers: "at capacity 0, or kept out by references, answers 0 and does nothing"; "8: `put` larger than a capacity above 0"
-unfoldable pub pushReply : ℕ → Push → Reply
-pushReply c Made = Reply.Done
-pushReply c TooLarge = cond (eqb c 0) Reply.Done (Reply.Refused MaxTableSizeReached)
-pushReply c NoRoom = Reply.Done
-pushReply c Full = Reply.Refused CountTooLarge
-pushReply c Push.BadCall = Reply.Refused BadCall
 
 abbrev pub putBy : Table → Pushed → Replied
 putBy t p = answer (withRing (p .ring) t) (pushReply (t .ring .capacity) (p .push))
@@ -242,10 +211,6 @@ begin t stream = whenClosed t (answer (withSection true (t .ring .inserted - t .
 unfoldable pub abandon : Table → Replied
 abandon t = whenOpen t (answer (withSection false (t .base) (t .section) t) Reply.Done)
 
--- "if the largest reference is above the known received count it counts one blocked section"
-abbrev pub countedWith : Waiting → ℕ → ℕ → Counted
-countedWith w known largest = cond (leb largest known) (record { fits = true; waiting = w }) (blocking w largest)
-
 abbrev pub queuedWith : Table → Counted → Queue → Replied
 queuedWith t w q = cond (w .fits) (answer (committed q (w .waiting) t) Reply.Done) (no t TrackingFull)
 
@@ -260,9 +225,6 @@ commit t largest =
 -- one more use of an entry in a section
 abbrev pub notedIn : Section → ℕ → Noted
 notedIn s x = noting (s .uses) (s .used) (x - s .from)
-
-abbrev pub withUses : Section → Noted → Section
-withUses s r = record { stream = s .stream; from = s .from; used = r .used; uses = r .uses }
 
 abbrev pub withNoted : Noted → Table → Table
 withNoted r t = withSection (t .active) (t .base) (withUses (t .section) r) t

@@ -2,24 +2,20 @@
 use mathlib.Core.Bool.{Bool, true, false, _&&_, cond}
 use mathlib.Core.List.{List}
 use mathlib.Core.Option.{Option, some, none}
-use Prim.Native.Nat.{ℕ, _+_, _-_, _^_}
+use Prim.Native.Nat.{ℕ, _-_, _^_}
 use lib.Dec.{leb, ltb}
 use lib.ListN.{take}
 use Rattle.arena.specs.Ring.{longEnough}
-use Rattle.entries.specs.Entry.{slots}
 use Rattle.model.specs.Bounds.{blockedSections, queuePlaces}
 use Rattle.model.specs.Table as model
 use Rattle.ring.specs.Ring.{largestCount, fieldsOf, keeps}
-use Rattle.tracking.specs.Queue.{sectionsOf, sectionLive, lowest, lowestOfAll, allSectionsLive}
-use Rattle.tracking.specs.Uses.{usesOf}
-use Rattle.tracking.specs.Waiting.{waitingOf, keepsCount}
-use Rattle.tracking.specs.declared.Floor.{Floor}
-use Rattle.tracking.specs.declared.Section.{Section}
+use Rattle.tracking.specs.Queue.{sectionsOf, lowest, lowestOfAll, allSectionsLive}
+use Rattle.blocked.specs.Waiting.{waitingOf, keepsCount}
 use Rattle.dynamic.specs.declared.Checked.{Checked}
 use Rattle.dynamic.specs.declared.Table.{Table}
-
-abbrev pub usesHere : Section → List model.Use
-usesHere s = usesOf (s .from) (s .used) (s .uses)
+-- the open section's rules and floor, which need no record
+unfoldable pub use Rattle.call_parts.specs.Parts.{openFloor}
+pub use Rattle.call_parts.specs.Parts.{usesHere, openRules}
 
 abbrev pub openOf : Table → Option model.Open
 openOf t = cond (t .active) (some (record { stream = t .section .stream; base = t .base; uses = usesHere (t .section) })) none
@@ -50,11 +46,6 @@ queueKeeps t =
     leb (t .queue .queued) queuePlaces
     && allSectionsLive (t .ring .dropped) (t .ring .inserted) (take (t .queue .queued) (t .queue .places))
 
--- an open section uses live entries; its base and its first number are of this table; and it uses every entry since its begin
-abbrev pub openRules : ℕ → Section → ℕ → ℕ → Bool
-openRules base s d i =
-    sectionLive d i s && (leb base i && (leb (s .from) d && leb i (s .from + slots + s .used)))
-
 abbrev pub openKeeps : Table → Bool
 openKeeps t = cond (t .active) (openRules (t .base) (t .section) (t .ring .dropped) (t .ring .inserted)) true
 
@@ -79,12 +70,6 @@ unfoldable pub lowestUsed : Table → ℕ
 lowestUsed t = cond (t .active) (lowest (lowestQueued t) (usesHere (t .section))) (lowestQueued t)
 
 -- ---- what a check of the record finds
-
-unfoldable pub openFloor : Bool → ℕ → Section → ℕ → ℕ → ℕ → Floor
-openFloor active base s d i low =
-    cond active
-    (cond (openRules base s d i) (record { live = true; low = lowest low (usesHere s) }) (record { live = false; low = low }))
-    (record { live = true; low = low })
 
 unfoldable pub checking : Table → Checked
 unfolding lowestUsed

@@ -2,9 +2,7 @@
 ghost use mathlib.Core.Path.{_≡_};
 ghost use mathlib.Core.Bool.{true};
 ghost use Prim.Native.Nat.{_+_, _-_, _≤_, _<_, _^_};
-ghost use lib.ListN.{length};
 ghost use Rattle.arena.specs.Ring.{longEnough};
-ghost use Rattle.field.specs.Field.{Field};
 ghost use Rattle.model.specs.Drop as model-table;
 ghost use Rattle.model.specs.Insert as model-insert;
 ghost use Rattle.model.specs.Report as model-report;
@@ -12,7 +10,7 @@ ghost use Rattle.model.specs.Section as model-section;
 ghost use Rattle.ring.specs.Ring.{largestCount};
 ghost use Rattle.dynamic.specs.Calls as calls;
 ghost use Rattle.dynamic.specs.Promise.{Keeps, Puts, Finds, Inserts};
-ghost use Rattle.dynamic.specs.Record.{sound, checking, openFloor};
+ghost use Rattle.dynamic.specs.Record.{sound, checking};
 use answers::Find;
 use answers::Insert;
 use answers::Insertion;
@@ -20,21 +18,24 @@ use answers::Lookup;
 use answers::Refusal;
 use answers::Reply;
 use arena::RING;
+pub use call_parts::CapacityTest;
+pub use call_parts::capacity_test;
+use call_parts::lookup_of;
+use call_parts::open_floor;
+pub use call_parts::push_reply;
+use call_parts::waiting_with;
+use call_parts::with_uses;
 use entries::Latest;
 use entries::Room;
 use entries::SLOTS;
 use model::BLOCKED_SECTIONS;
 use model::BLOCKED_VALUES;
-use model::LARGEST_CAPACITY;
 use model::QUEUE_PLACES;
 use model::SECTION_ENTRIES;
 use ring::LARGEST_COUNT;
-use ring::Push;
 use ring::Ring;
 use ring::Source;
 use static_table::StaticFound;
-use tracking::Counted;
-use tracking::Floor;
 use tracking::Held;
 use tracking::Noted;
 use tracking::Queue;
@@ -92,91 +93,6 @@ pub enum Origin {
 // Larger than any entry's index.
 const NOTHING_USED: usize = 18446744073709551615;
 
-// Why a capacity is not set, whatever the table holds; or none of these.
-pub enum CapacityTest {
-    Within,
-    Refused(Refusal),
-}
-
-// Whether a capacity is one that a table can have.
-pub fn capacity_test(capacity: usize) -> CapacityTest
-    ensures { λ r. ⌜ calls.tested r ≡ calls.capacityAnswer capacity ⌝ }
-{
-    if LARGEST_CAPACITY < capacity {
-        return CapacityTest::Refused(Refusal::MaximumTableSizeTooLarge);
-    }
-    if RING < capacity {
-        return CapacityTest::Refused(Refusal::AboveLentRoom);
-    }
-    CapacityTest::Within
-}
-
-// What a put answers for what the push did.
-pub fn push_reply(capacity: usize, push: Push) -> Reply
-    ensures { λ r. ⌜ r ≡ calls.pushReply capacity push ⌝ }
-{
-    match push {
-        Push::Made => Reply::Done,
-        Push::TooLarge => {
-            if capacity == 0 {
-                return Reply::Done;
-            }
-            Reply::Refused(Refusal::MaxTableSizeReached)
-        }
-        Push::NoRoom => Reply::Done,
-        Push::Full => Reply::Refused(Refusal::CountTooLarge),
-        Push::BadCall => Reply::Refused(Refusal::BadCall),
-    }
-}
-
-// Whether an open section keeps its rules, and the lowest entry that it or a queued one uses.
-fn open_floor(
-    active: bool,
-    base: usize,
-    section: Section,
-    dropped: usize,
-    inserted: usize,
-    low: usize,
-) -> Floor
-    requires { ⌜ (dropped ≤ inserted) × (inserted ≤ largestCount) ⌝ }
-    ensures { λ r. ⌜ r ≡ openFloor active base section dropped inserted low ⌝ }
-{
-    if !active {
-        return Floor { live: true, low };
-    }
-    let floor = tracking::section_floor(section, dropped, inserted, low);
-    if !floor.live {
-        return floor;
-    }
-    if inserted < base {
-        return Floor { live: false, low };
-    }
-    let from = section.from;
-    if dropped < from {
-        return Floor { live: false, low };
-    }
-    if SLOTS + section.used < inserted - from {
-        return Floor { live: false, low };
-    }
-    floor
-}
-
-// How an entry is named in a section: below its base, or above it.
-fn lookup_of(base: usize, absolute: usize) -> Lookup
-    ensures { λ r. ⌜ r ≡ model-section.lookupOf base absolute ⌝ }
-{
-    if absolute <= base {
-        return Lookup::Relative {
-            index: base - absolute,
-            absolute,
-        };
-    }
-    Lookup::PostBase {
-        index: absolute - base - 1,
-        absolute,
-    }
-}
-
 // How a new entry is written.
 fn insertion_of(base: usize, absolute: usize, origin: Origin) -> Insertion
     requires { ⌜ (base < absolute) × calls.OlderThan absolute origin ⌝ }
@@ -233,19 +149,6 @@ fn note(section: Section, entry: usize) -> Noted
     tracking::note(uses, section.used, (entry - section.from) as u16)
 }
 
-// A section with other uses.
-fn with_uses(section: Section, noted: Noted) -> Section
-    ensures { λ r. ⌜ r ≡ calls.withUses section noted ⌝ }
-{
-    let uses = noted.uses;
-    Section {
-        stream: section.stream,
-        from: section.from,
-        used: noted.used,
-        uses,
-    }
-}
-
 // The uses of a section that inserts: the new entry's, and an older one's too where that names it.
 fn note_origin(section: Section, absolute: usize, origin: Origin) -> Noted
     requires { ⌜ (section .from ≤ absolute) × (absolute - section .from < 2 ^ 16) × calls.OlderThan absolute origin × calls.NewerThan (section .from) origin ⌝ }
@@ -261,19 +164,6 @@ fn note_origin(section: Section, absolute: usize, origin: Origin) -> Noted
         Origin::NamedEntry(older) => note(with_uses(section, first), older),
         Origin::Plain => first,
     }
-}
-
-// The blocked sections with a committed one, if its largest reference is above the known received count.
-fn waiting_with(waiting: Waiting, known: usize, largest: usize) -> Counted
-    ensures { λ r. ⌜ r ≡ calls.countedWith waiting known largest ⌝ }
-{
-    if largest <= known {
-        return Counted {
-            fits: true,
-            waiting,
-        };
-    }
-    tracking::block(waiting, largest)
 }
 
 impl Table {

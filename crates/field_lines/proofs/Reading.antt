@@ -9,7 +9,7 @@ use Rattle.answers.specs.Answer.{Answer, done, refused, andThen}
 use Rattle.answers.specs.declared.Refusal.{Refusal}
 use Rattle.answers.specs.declared.Refusal.the-variants.{UnexpectedEnd, MissingRefs}
 use Rattle.block.specs.Lines.{FieldLine, indexed, named, literal, lineAt}
-use Rattle.block.specs.declared.Reference.{Reference}
+use Rattle.line_writing.specs.declared.Reference.{Reference}
 use Rattle.field.specs.Field.{Field}
 use Rattle.forms.specs.Forms.{lineKind}
 use Rattle.instructions.specs.Instruction.{stretch}

@@ -14,7 +14,7 @@ use Rattle.answers.specs.Answer.{done, refused}
 use Rattle.answers.specs.declared.Refusal.the-variants.{BadCall}
 use Rattle.prefix_int.specs.Integer.{Integer, groups, intFrom, intAt, spell, encode}
 use Rattle.prefix_int.proofs.Reading.{digit-add}
-use Rattle.prefix_int.proofs.Writing.{length-short, length-long}
+use Rattle.int_writing.proofs.Writing.{length-short, length-long}
 
 same-done : {A : Type 0} (a b : A) → done a ≡ done b → a ≡ b
 same-done a b h = cc

@@ -1,5 +1,3 @@
 pub mod Bounds
 pub mod Reading
 pub mod RoundTrip
-pub mod Writers
-pub mod Writing

@@ -15,8 +15,8 @@ use Rattle.answers.specs.Write.{fitted, left}
 use Rattle.answers.specs.declared.Refusal.the-variants.{BadCall, CountTooLarge}
 use Rattle.prefix_int.specs.Integer.{Integer, groups, intFrom, intAt, spell, encode, goodCall, intBytes}
 use Rattle.prefix_int.proofs.Reading.{digit-add}
-use Rattle.prefix_int.proofs.Writers.{leaves}
-use Rattle.prefix_int.proofs.Writing.{Good, call-good, spell-last, spell-more, spell-fits, encode-short, encode-long}
+use Rattle.int_writing.proofs.Writers.{leaves}
+use Rattle.int_writing.proofs.Writing.{Good, call-good, spell-last, spell-more, spell-fits, encode-short, encode-long}
 
 -- an integer's answer, at a value and a position that are the same
 same-int : (f : ℕ) {v w d e : ℕ} → v ≡ w → d ≡ e

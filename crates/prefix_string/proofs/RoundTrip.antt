@@ -11,10 +11,11 @@ use Rattle.answers.specs.Write.{fitted, left}
 use Rattle.prefix_int.specs.Integer.{Integer, intAt, encode}
 use Rattle.prefix_int.proofs.Bounds.{found}
 use Rattle.prefix_int.proofs.RoundTrip.{read-there}
-use Rattle.prefix_int.proofs.Writers.{leaves}
-use Rattle.prefix_int.proofs.Writing.{Good, call-good}
+use Rattle.int_writing.proofs.Writers.{leaves}
+use Rattle.int_writing.proofs.Writing.{Good, call-good}
 use Rattle.prefix_string.specs.Text.{hBit, bytesAfter, textAt, plain, textBytes}
-use Rattle.prefix_string.proofs.Laws.{length-call, text-plain, text-bytes}
+use Rattle.text_writing.proofs.Laws.{length-call, text-bytes}
+use Rattle.prefix_string.proofs.Reading.{text-plain}
 
 -- a string that stands at a position: what its read answers, and its bytes where that says
 pub record Stands (s : List ℕ) (at n f : ℕ) (t : List ℕ) (start next : ℕ) : Type 0 where

@@ -1,13 +1,15 @@
 -- Document 01, "Plain strings: H bit, length, bytes. H set is refused once its byte is seen, before the length." (RFC 7541 5.2)
-use mathlib.Core.Bool.{Bool, false, cond}
-use mathlib.Core.List.{List, _++_}
-use Prim.Native.Nat.{ℕ, _+_, _-_, _*_, _/_, _%_, _^_}
+use mathlib.Core.Bool.{cond}
+use mathlib.Core.List.{List}
+use Prim.Native.Nat.{ℕ, _+_, _-_, _/_, _%_, _^_}
 use lib.Dec.{ltb, leb, eqb}
 use lib.ListN.{length, getD}
 use Rattle.answers.specs.Answer.{Answer, done, refused, andThen}
 use Rattle.answers.specs.declared.Refusal.the-variants.{UnexpectedEnd, HuffmanString, BadCall}
-use Rattle.prefix_int.specs.Integer.{Integer, intAt, encode, sizeOf}
+use Rattle.prefix_int.specs.Integer.{Integer, intAt}
 use Rattle.prefix_string.specs.declared.TextRead.{TextRead}
+-- the bytes of a string
+pub use Rattle.text_writing.specs.Plain.{goodText, plain, textBytes, textSize}
 
 -- a string that was read: the bits above H, where its bytes start, how many there are, and the position past them
 pub record Text : Type 0 where
@@ -41,18 +43,3 @@ textAt s at n =
 abbrev pub textRead : TextRead → Answer Text
 textRead (TextRead.Text f s n e) = done (record { flags = f; start = s; len = n; next = e })
 textRead (TextRead.Refused r) = refused r
-
--- "22: width, flags past 8-N bits", one of which is H
-abbrev pub goodText : ℕ → ℕ → Bool
-goodText n f = cond (ltb n 1) false (cond (ltb 7 n) false (ltb f (2 ^ (7 - n))))
-
--- "strings are written plain": H is 0
-abbrev pub plain : ℕ → ℕ → List ℕ → List ℕ
-plain n f t = encode n (f * 2) (length t) ++ t
-
-abbrev pub textBytes : ℕ → ℕ → List ℕ → Answer (List ℕ)
-textBytes n f t = cond (goodText n f) (done (plain n f t)) (refused BadCall)
-
--- how many bytes a string of m bytes takes: its length, with H and the flags, and then its bytes
-abbrev pub textSize : ℕ → ℕ → ℕ → Answer ℕ
-textSize n f m = cond (goodText n f) (andThen (sizeOf n m) (λ head. done (head + m))) (refused BadCall)

@@ -22,7 +22,7 @@ use Rattle.ring.specs.Ring.{keeps}
 use Rattle.stream.specs.Instructions.{kindInt, integerAt}
 use Rattle.tracking.specs.Queue.{noSection, releasing}
 use Rattle.tracking.specs.Uses.{noHeld}
-use Rattle.tracking.specs.Waiting.{noValue, keepsCount, letGo}
+use Rattle.blocked.specs.Waiting.{noValue, keepsCount, letGo}
 use Rattle.tracking.specs.declared.Section.{Section}
 use Rattle.reorder.specs.Reports.{only, Reordered}
 use Rattle.reorder.specs.Swaps.{keep, swap, then, Independent}

@@ -17,10 +17,10 @@ use Rattle.dynamic.proofs.Sound.{facts}
 use Rattle.ring.specs.Ring.{largestCount}
 use Rattle.running.specs.Run.{Took}
 use Rattle.tracking.specs.Queue.{releasing}
-use Rattle.tracking.specs.Waiting.{letGo}
+use Rattle.blocked.specs.Waiting.{letGo}
 use Rattle.tracking.specs.declared.Queue.{Queue}
-use Rattle.tracking.specs.declared.Waiting.{Waiting}
-use Rattle.tracking.proofs.Blocked.{let-go-less-first}
+use Rattle.blocked.specs.declared.Waiting.{Waiting}
+use Rattle.blocked.proofs.Blocked.{let-go-less-first}
 use Rattle.tracking.proofs.Sections.{not-released, releases-commute, release-made}
 use Rattle.reorder.specs.Reports.{amount}
 use Rattle.reorder.specs.Swaps.{Independent}

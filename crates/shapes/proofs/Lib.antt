@@ -1,3 +1,2 @@
 pub mod Bounds
-pub mod Laws
 pub mod RoundTrip

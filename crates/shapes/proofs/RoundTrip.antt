@@ -9,13 +9,13 @@ use Rattle.answers.specs.Answer.{Answer, done, refused, andThen}
 use Rattle.answers.specs.Write.{fitted, left}
 use Rattle.prefix_int.specs.Integer.{intAt, encode, intBytes}
 use Rattle.prefix_int.proofs.RoundTrip.{encoded, read-there}
-use Rattle.prefix_int.proofs.Writers.{leaves}
-use Rattle.prefix_int.proofs.Writing.{call-good}
+use Rattle.int_writing.proofs.Writers.{leaves}
+use Rattle.int_writing.proofs.Writing.{call-good}
 use Rattle.prefix_string.specs.Text.{plain, textBytes}
-use Rattle.prefix_string.proofs.Laws.{text-bytes}
+use Rattle.text_writing.proofs.Laws.{text-bytes}
 use Rattle.prefix_string.proofs.RoundTrip.{Stands, stands, head}
 use Rattle.shapes.specs.Shapes.{valueWidth, textAfter, textsAt, joined, intTextBytes, textsBytes}
-use Rattle.shapes.proofs.Laws.{valueBytes}
+use Rattle.shape_writing.proofs.Laws.{valueBytes}
 
 -- a write of two parts that was done: the bytes of the first, what stands after them, and the value
 record Parts (a : Answer (List ℕ)) (t l : List ℕ) (at e : ℕ) : Type 0 where

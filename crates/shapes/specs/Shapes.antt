@@ -1,16 +1,15 @@
 -- The two shapes of RFC 9204 4.3 and 4.5 that hold strings: an integer and a value, and a name and a value.
-use mathlib.Core.List.{List, _++_}
+use mathlib.Core.List.{List}
 use Prim.Native.Nat.{ℕ}
 use Rattle.answers.specs.Answer.{Answer, done, refused, andThen}
-use Rattle.prefix_int.specs.Integer.{Integer, intBytes}
-use Rattle.prefix_string.specs.Text.{Text, textAt, textBytes}
+use Rattle.prefix_int.specs.Integer.{Integer}
+use Rattle.prefix_string.specs.Text.{Text, textAt}
 use Rattle.shapes.specs.declared.IntTextRead.{IntTextRead}
 use Rattle.shapes.specs.declared.TextsRead.{TextsRead}
 use Rattle.shapes.specs.declared.TextsRead.the-variants.{Texts}
-
--- "H, Value Length (7+)"
-abbrev pub valueWidth : ℕ
-valueWidth = 7
+-- the width of a value's length, and the bytes of both shapes
+unfoldable pub use Rattle.shape_writing.specs.Joined.{intTextBytes, textsBytes}
+pub use Rattle.shape_writing.specs.Joined.{valueWidth, joined}
 
 pub record IntText : Type 0 where
   pub flags : ℕ
@@ -49,13 +48,3 @@ textsAt s at n = andThen (textAt s at n) (λ a. andThen (textAt s (a .next) valu
 abbrev pub textsRead : TextsRead → Answer TwoTexts
 textsRead (Texts f a m b n e) = done (record { flags = f; name = a; nameLen = m; value = b; valueLen = n; next = e })
 textsRead (TextsRead.Refused r) = refused r
-
--- the bytes of one and then of another
-abbrev pub joined : Answer (List ℕ) → Answer (List ℕ) → Answer (List ℕ)
-joined a b = andThen a (λ x. andThen b (λ y. done (x ++ y)))
-
-unfoldable pub intTextBytes : ℕ → ℕ → ℕ → List ℕ → Answer (List ℕ)
-intTextBytes n f i t = joined (intBytes n f i) (textBytes valueWidth 0 t)
-
-unfoldable pub textsBytes : ℕ → ℕ → List ℕ → List ℕ → Answer (List ℕ)
-textsBytes n f s t = joined (textBytes n f s) (textBytes valueWidth 0 t)

@@ -6,8 +6,8 @@ ghost use lib.Seq.{sets};
 ghost use Rattle.answers.specs.Write.{Writes};
 ghost use Rattle.field.specs.Field.{same, equal};
 ghost use Rattle.static_table.specs.AppendixA.{appendixA};
-ghost use Rattle.static_table.specs.Arrays.{Lent, valueLengths};
-ghost use Rattle.static_table.specs.Static.{noField, got, found, entryAt, lowestField, lowestName, cutOf};
+ghost use Rattle.static_table.specs.Arrays.{Lent, startsFrom, nameLengths, valueLengths};
+ghost use Rattle.static_table.specs.Static.{laid, noField, got, found, entryAt, lowestField, lowestName, cutOf};
 use answers::Refusal;
 use answers::Written;
 
@@ -2367,6 +2367,31 @@ const VALUES: [u8; ENTRIES] = [
     10,
 ];
 
+// Each array is made in one place, and handed on as a value.
+fn bytes() -> [u8; SIZE]
+    ensures { λ r. ⌜ r ≡ laid appendixA ⌝ }
+{
+    BYTES
+}
+
+fn starts() -> [u16; ENTRIES]
+    ensures { λ r. ⌜ r ≡ startsFrom 0 appendixA ⌝ }
+{
+    STARTS
+}
+
+fn names() -> [u8; ENTRIES]
+    ensures { λ r. ⌜ r ≡ nameLengths appendixA ⌝ }
+{
+    NAMES
+}
+
+fn values() -> [u8; ENTRIES]
+    ensures { λ r. ⌜ r ≡ valueLengths appendixA ⌝ }
+{
+    VALUES
+}
+
 // A number of the arrays as a usize.
 fn wide8(x: u8) -> usize
     ensures { λ r. ⌜ r ≡ x ⌝ }
@@ -2477,7 +2502,11 @@ fn search_field(
 pub fn find(name: &[u8], value: &[u8]) -> StaticFound
     ensures { λ r. ⌜ found r ≡ lowestField (now (name .entry)) (now (value .entry)) ⌝ }
 {
-    search_field(&BYTES, &STARTS, &NAMES, &VALUES, name, value)
+    let b = bytes();
+    let s = starts();
+    let n = names();
+    let v = values();
+    search_field(&b, &s, &n, &v, name, value)
 }
 
 // The lowest index of a name, over the lent arrays.
@@ -2504,7 +2533,10 @@ fn search_name(
 pub fn find_name(name: &[u8]) -> StaticFound
     ensures { λ r. ⌜ found r ≡ lowestName (now (name .entry)) ⌝ }
 {
-    search_name(&BYTES, &STARTS, &NAMES, name)
+    let b = bytes();
+    let s = starts();
+    let n = names();
+    search_name(&b, &s, &n, name)
 }
 
 // The len bytes from start on, written to a buffer.
@@ -2535,6 +2567,7 @@ pub fn copy(buf: &mut [u8], at: usize, start: usize, len: usize) -> Written
     if buf.len() - len < at {
         return Written::Refused(Refusal::OutputFull);
     }
-    put(buf, at, &BYTES, start, len);
+    let b = bytes();
+    put(buf, at, &b, start, len);
     Written::Next(at + len)
 }

@@ -40,7 +40,7 @@ use Rattle.stream.specs.Instructions.{
   literalBytes,
 }
 use Rattle.stream.proofs.First.{inForm, head-in-form, t-in-form, first-form, first-name-ref, first-literal, encoder-first, decoder-first}
-use Rattle.stream.proofs.Reading.{kind-same}
+use Rattle.stream_parts.proofs.Reading.{kind-same}
 
 -- the first integer of an instruction, whose flags are those of the kind's head
 module _ (s : List ℕ) (at : ℕ) (k : Kind) (t : Bool) (i : Integer) (read : intAt s at (formOf k .width) ≡ done i)

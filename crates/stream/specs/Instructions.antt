@@ -1,39 +1,23 @@
 -- The instructions of RFC 9204 4.3 and 4.4, each by itself: what a reader finds at a position, and the bytes that a writer writes.
-use mathlib.Core.Bool.{Bool, true, false, cond}
+use mathlib.Core.Bool.{Bool, cond}
 use mathlib.Core.List.{List}
 use mathlib.Core.Option.{Option, some, none}
-use Prim.Native.Nat.{ℕ, _+_, _/_, _%_}
-use lib.Dec.{ltb, eqb}
-use lib.ListN.{getD}
+use Prim.Native.Nat.{ℕ, _%_}
+use lib.Dec.{eqb}
 use Rattle.answers.specs.Answer.{Answer, done, refused, andThen, cutShort}
-use Rattle.answers.specs.declared.Refusal.the-variants.{Overflow, InvalidPrefix}
-use Rattle.forms.specs.Forms.{formOf, hasForm, headOf}
-use Rattle.forms.specs.declared.DecoderInstruction.the-variants.{InsertCountIncrement, StreamCancel, HeaderAck}
+use Rattle.answers.specs.declared.Refusal.the-variants.{Overflow}
+use Rattle.forms.specs.Forms.{formOf}
 use Rattle.forms.specs.declared.EncoderInstruction.the-variants.{InsertWithNameRef, InsertWithoutNameRef}
 use Rattle.forms.specs.declared.Kind.{Kind}
-use Rattle.forms.specs.declared.Kind.the-variants.{Encoder, Decoder, Line}
-use Rattle.prefix_int.specs.Integer.{Integer, intAt, intBytes}
-use Rattle.shapes.specs.Shapes.{IntText, TwoTexts, textAfter, textsAt, intTextBytes, textsBytes}
+use Rattle.forms.specs.declared.Kind.the-variants.{Encoder}
+use Rattle.prefix_int.specs.Integer.{Integer}
+use Rattle.shapes.specs.Shapes.{IntText, TwoTexts, textAfter, textsAt}
 use Rattle.stream.specs.declared.IntegerRead.{IntegerRead}
 use Rattle.stream.specs.declared.LiteralRead.{LiteralRead}
 use Rattle.stream.specs.declared.NameRefRead.{NameRefRead}
-
--- "26 InvalidPrefix: a single-instruction reader given another kind". "26 comes after the first integer, so a cut or a ninth-byte 2 wins"
-unfoldable pub kindInt : List ℕ → ℕ → Kind → Answer Integer
-kindInt s at k =
-    andThen (intAt s at (formOf k .width))
-    (λ i. cond (hasForm (formOf k) (getD s at 0)) (done i) (refused InvalidPrefix))
-
--- "2 Overflow: increment above 64"
-abbrev pub incrementLimit : ℕ
-incrementLimit = 64
-
-abbrev pub pastLimit : Kind → ℕ → Bool
-pastLimit (Encoder e) v = false
-pastLimit (Decoder InsertCountIncrement) v = ltb incrementLimit v
-pastLimit (Decoder StreamCancel) v = false
-pastLimit (Decoder HeaderAck) v = false
-pastLimit (Line l) v = false
+-- the first integer, its limit, and the bytes of an instruction
+unfoldable pub use Rattle.stream_parts.specs.Parts.{kindInt, integerBytes, nameRefBytes, literalBytes}
+pub use Rattle.stream_parts.specs.Parts.{incrementLimit, pastLimit}
 
 -- ---- an instruction that is one integer
 
@@ -52,9 +36,6 @@ abbrev pub integerRead : IntegerRead → Answer (Option OneInteger)
 integerRead (IntegerRead.Integer v e) = done (some (record { value = v; next = e }))
 integerRead IntegerRead.Cut = done none
 integerRead (IntegerRead.Refused r) = refused r
-
-unfoldable pub integerBytes : Kind → ℕ → Answer (List ℕ)
-integerBytes k v = intBytes (headOf k false .width) (headOf k false .flags) v
 
 -- ---- 4.3.2: an insert with a name reference, "1 T, Name Index (6+), H, Value Length (7+), Value"
 
@@ -79,10 +60,6 @@ nameRefRead (NameRefRead.NameRef t i v n e) = done (some (record { isStatic = t;
 nameRefRead NameRefRead.Cut = done none
 nameRefRead (NameRefRead.Refused r) = refused r
 
-unfoldable pub nameRefBytes : Bool → ℕ → List ℕ → Answer (List ℕ)
-nameRefBytes t i v =
-    intTextBytes (headOf (Encoder InsertWithNameRef) t .width) (headOf (Encoder InsertWithNameRef) t .flags) i v
-
 -- ---- 4.3.3: an insert with both strings, "0 1 H, Name Length (5+), Name, H, Value Length (7+), Value"
 
 pub record Literal : Type 0 where
@@ -104,8 +81,3 @@ literalRead (LiteralRead.Literal a m b n e) =
     done (some (record { name = a; nameLen = m; value = b; valueLen = n; next = e }))
 literalRead LiteralRead.Cut = done none
 literalRead (LiteralRead.Refused r) = refused r
-
--- H stands between the pattern and the length
-unfoldable pub literalBytes : List ℕ → List ℕ → Answer (List ℕ)
-literalBytes s t =
-    textsBytes (headOf (Encoder InsertWithoutNameRef) false .width) (headOf (Encoder InsertWithoutNameRef) false .flags / 2) s t

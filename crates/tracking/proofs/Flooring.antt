@@ -24,7 +24,7 @@ use Rattle.tracking.specs.Queue.{
   lowestOfAll,
   queueFloor,
 }
-use Rattle.tracking.proofs.Lists.{next, none-left, and-left, and-right}
+use Rattle.blocked.proofs.Lists.{next, none-left, and-left, and-right}
 
 -- ---- one use
 

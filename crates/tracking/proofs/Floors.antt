@@ -12,7 +12,7 @@ use Rattle.model.specs.Table.{Use, usesIn, usesQueued}
 use Rattle.tracking.specs.declared.Section.{Section}
 use Rattle.tracking.specs.Uses.{usesOf}
 use Rattle.tracking.specs.Queue.{sectionOf, isLiveUse, allLive, lowest, sectionLive, allSectionsLive, lowestOfAll}
-use Rattle.tracking.proofs.Lists.{and-left, and-right}
+use Rattle.blocked.proofs.Lists.{and-left, and-right}
 use Rattle.tracking.proofs.Flooring.{not-dropped, inserted, counted}
 
 pub live-use : (d i : ℕ) (u : Use) → d < u .entry → u .entry ≤ i → 1 ≤ u .count → isLiveUse d i u ≡ true

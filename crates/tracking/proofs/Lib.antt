@@ -1,13 +1,6 @@
-pub mod Lists
-pub mod Searching
 pub mod Flooring
 pub mod Noting
-pub mod Counting
-pub mod Blocking
 pub mod Moving
-pub mod Keeping
 pub mod Floors
-pub mod First
 pub mod Uses
 pub mod Sections
-pub mod Blocked

@@ -29,8 +29,8 @@ use Rattle.tracking.specs.Queue.{
   closedUp,
   releasing,
 }
-use Rattle.tracking.proofs.Lists.{and-left, and-right}
-use Rattle.tracking.proofs.First.{is-or-not}
+use Rattle.blocked.proofs.Lists.{and-left, and-right}
+use Rattle.blocked.proofs.First.{is-or-not}
 use Rattle.tracking.proofs.Moving.{nothing, released}
 
 -- ---- lists of sections: whether a stream has one, and the sections without its oldest

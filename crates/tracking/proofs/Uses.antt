@@ -17,9 +17,9 @@ use Rattle.tracking.specs.declared.Held.{Held}
 use Rattle.tracking.specs.declared.Noted.{Noted}
 use Rattle.tracking.specs.Uses.{noHeld, useOf, usesOf, placeOf, noting}
 use Rattle.tracking.specs.Queue.{isLiveUse, allLive}
-use Rattle.tracking.proofs.Lists.{and-left, and-right}
+use Rattle.blocked.proofs.Lists.{and-left, and-right}
 use Rattle.tracking.proofs.Noting.{used-up, used-again, no-place, used-first}
-use Rattle.tracking.proofs.First.{first-later, is-or-not, first-is, Passing, changed, not-changed, added, not-added}
+use Rattle.blocked.proofs.First.{first-later, is-or-not, first-is, Passing, changed, not-changed, added, not-added}
 use Rattle.tracking.proofs.Flooring.{not-dropped, inserted}
 use Rattle.tracking.proofs.Floors.{live-use, not-yet-used, first-used}
 

@@ -1,4 +1,2 @@
-pub mod Search
 pub mod Uses
 pub mod Queue
-pub mod Waiting

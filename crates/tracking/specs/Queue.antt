@@ -10,7 +10,7 @@ use Rattle.tracking.specs.declared.Floor.{Floor}
 use Rattle.tracking.specs.declared.Queue.{Queue}
 use Rattle.tracking.specs.declared.Queued.{Queued}
 use Rattle.tracking.specs.declared.Section.{Section}
-use Rattle.tracking.specs.Search.{firstOf}
+use Rattle.blocked.specs.Search.{firstOf}
 use Rattle.tracking.specs.Uses.{noHeld, usesOf}
 
 abbrev pub sectionOf : Section → model.Section

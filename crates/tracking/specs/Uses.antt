@@ -8,7 +8,7 @@ use Rattle.model.specs.Bounds.{sectionEntries, entryUses}
 use Rattle.model.specs.Table.{Use}
 use Rattle.tracking.specs.declared.Held.{Held}
 use Rattle.tracking.specs.declared.Noted.{Noted}
-use Rattle.tracking.specs.Search.{firstOf}
+use Rattle.blocked.specs.Search.{firstOf}
 
 abbrev pub noHeld : Held
 noHeld = record { offset = 0; count = 0 }

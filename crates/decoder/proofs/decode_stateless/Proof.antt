@@ -47,29 +47,29 @@ use denote.Triple.Walked.{says, Stays, stay-none, stay-none-slice, stay-slice, w
 use denote.Exit.{yes}
 use denote.Signature.{plain}
 use Rattle.decoder.specs.Section.{Reader, stateless, lineOf, outOf, sectionOf, readAll, start}
-use Rattle.decoder.specs.declared.Field.{Field}
-use Rattle.decoder.specs.declared.Cursor.{Cursor}
-use Rattle.decoder.specs.declared.Decoded.{Decoded}
-use Rattle.decoder.specs.declared.Line.{Line}
-use Rattle.decoder.specs.declared.MaxSize.{MaxSize}
-use Rattle.decoder.proofs.Field as F
-use Rattle.decoder.proofs.Field.Laws as F′
-use Rattle.decoder.proofs.Cursor as C
-use Rattle.decoder.proofs.Cursor.Laws as C′
-use Rattle.decoder.proofs.Decoded as D
-use Rattle.decoder.proofs.Decoded.Laws as D′
-use Rattle.decoder.proofs.Line as L
-use Rattle.decoder.proofs.Line.Laws as L′
-use Rattle.decoder.proofs.MaxSize as MaxSize′
-use Rattle.decoder.proofs.MaxSize.Laws as MaxSize″
+use Rattle.section_steps.specs.declared.Field.{Field}
+use Rattle.section_steps.specs.declared.Cursor.{Cursor}
+use Rattle.section_steps.specs.declared.Decoded.{Decoded}
+use Rattle.section_steps.specs.declared.Line.{Line}
+use Rattle.section_steps.specs.declared.MaxSize.{MaxSize}
+use Rattle.section_steps.proofs.Field as F
+use Rattle.section_steps.proofs.Field.Laws as F′
+use Rattle.section_steps.proofs.Cursor as C
+use Rattle.section_steps.proofs.Cursor.Laws as C′
+use Rattle.section_steps.proofs.Decoded as D
+use Rattle.section_steps.proofs.Decoded.Laws as D′
+use Rattle.section_steps.proofs.Line as L
+use Rattle.section_steps.proofs.Line.Laws as L′
+use Rattle.section_steps.proofs.MaxSize as MaxSize′
+use Rattle.section_steps.proofs.MaxSize.Laws as MaxSize″
 use Rattle.decoder.proofs.Turns as laws
 use Rattle.decoder.proofs.Turns.{Turn}
 use Rattle.decoder.proofs.Values.{field-val, cursor-val, decoded-val, line-val, as-is, byte-ref, byte-slice, start-is}
 use Rattle.decoder.proofs.Walk.{tail, ifs, LentAgain, lends-again, comes-back}
-use Rattle.decoder.proofs.next_stateless as step′
-use Rattle.decoder.proofs.next_stateless.Symbol as step-def
-use Rattle.decoder.proofs.next_stateless.Symbol.{name as #step}
-use Rattle.decoder.proofs.next_stateless.Met as step-thm
+use Rattle.section_steps.proofs.next_stateless as step′
+use Rattle.section_steps.proofs.next_stateless.Symbol as step-def
+use Rattle.section_steps.proofs.next_stateless.Symbol.{name as #step}
+use Rattle.section_steps.proofs.next_stateless.Met as step-thm
 use Rattle.decoder.proofs.decode_stateless.Key.{name as #fn}
 use Rattle.decoder.proofs.decode_stateless as fn
 use Rattle.decoder.proofs.decode_stateless.Statement as stated

@@ -9,7 +9,7 @@ use denote.Ref.{now}
 use Rattle.static_table.specs.Static.{found, lowestName}
 use Rattle.dynamic.specs.Calls.{latestAfter}
 use Rattle.dynamic.proofs.Naming.{names-equal, names-static, names-named, names-plain}
-use Rattle.dynamic.proofs.Refer.{found-within, found-at, found-none}
+use Rattle.dynamic.proofs.Searched.{found-within, found-at, found-none}
 use Rattle.dynamic.proofs.origin_of.Statement.{statement}
 use Rattle.dynamic.proofs.origin_of.Tie as tie
 

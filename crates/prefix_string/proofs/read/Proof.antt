@@ -2,8 +2,8 @@
 use mathlib.Core.Path.{sym, _∙_}
 use borrow.Author.Tests.{not-true, not-false}
 use borrow.Author.Needs.{needs}
-use Rattle.prefix_int.proofs.Writing.{Good, call-good}
-use Rattle.prefix_string.proofs.Laws.{text-bad, text-end, text-huffman, text-plain}
+use Rattle.int_writing.proofs.Writing.{Good, call-good}
+use Rattle.prefix_string.proofs.Reading.{text-bad, text-end, text-huffman, text-plain}
 use Rattle.prefix_string.proofs.read.Statement.{statement}
 use Rattle.prefix_string.proofs.read.Tie as tie
 

@@ -6,7 +6,7 @@ use native.Mathlib.Omega.{arith}
 use lib.ListN.{length, drop, length-set, drop-of-length-le}
 use lib.Seq.{sets}
 use borrow.Author.Needs.{needs}
-use Rattle.prefix_string.proofs.Laws.{copy-more}
+use Rattle.text_writing.proofs.Laws.{copy-more}
 use Rattle.qpack_table.proofs.put_text.Statement.{statement}
 use Rattle.qpack_table.proofs.put_text.Tie as tie
 

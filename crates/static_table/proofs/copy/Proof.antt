@@ -30,6 +30,9 @@ returns-4 c =
     let a = c .before .before .before .before .before .args in
     copy-full (now (a .buf)) (a .at) (a .start) (a .len) (omega arith) (omega arith)
 
+bytes-requires : tie.Need-bytes-requires
+bytes-requires c κs = search needs
+
 slice-aggregate-put : tie.Need-slice-aggregate-put
 slice-aggregate-put c = search needs
 
@@ -43,11 +46,10 @@ same-length : tie.Need-same-length
 same-length c = search needs
 
 returns-5 : tie.Need-returns-5
-unfolding appendixA
 returns-5 c =
     let p = c .before .before in
-    let a = p .before .before .before .before .before .before .before .before .args in
-    copy-next (now (a .buf)) (a .at) (a .start) (a .len) (omega arith) _ (omega arith) (p .put .ensures)
+    let a = p .before .before .before .before .before .before .before .before .before .args in
+    copy-next (now (a .buf)) (a .at) (a .start) (a .len) (omega arith) _ (omega arith) (rw (← p .before .before .before .bytes .ensures) (p .put .ensures))
 
 pub copy-spec : {M : Type 1} → statement M
 copy-spec =
@@ -58,6 +60,7 @@ copy-spec =
     returns-3
     sub-if4
     returns-4
+    bytes-requires
     slice-aggregate-put
     put-requires
     add-t8

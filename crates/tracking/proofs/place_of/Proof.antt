@@ -3,7 +3,7 @@ use mathlib.Core.Path.{_≡_}
 use Prim.Native.Nat.{_-_}
 use native.Mathlib.Omega.{arith}
 use lib.ListN.{length}
-use Rattle.tracking.proofs.Searching.{Searching, not-yet, here, not-here, nowhere}
+use Rattle.blocked.proofs.Searching.{Searching, not-yet, here, not-here, nowhere}
 use Rattle.tracking.specs.declared.Held.{Held}
 use Rattle.tracking.proofs.place_of.Statement.{statement}
 use Rattle.tracking.proofs.place_of.Tie as tie

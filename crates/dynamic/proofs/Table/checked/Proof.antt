@@ -4,8 +4,7 @@ use mathlib.Core.Bool.{true}
 use borrow.Author.Needs.{needs}
 use borrow.Author.Tests.{not-true, not-false, le-leb, lt-leb, lt-ltb, le-ltb}
 use Rattle.ring.specs.Ring.{keeps}
-use Rattle.ring.proofs.Keeping.{kept}
-use Rattle.tracking.specs.Waiting.{keepsCount}
+use Rattle.blocked.specs.Waiting.{keepsCount}
 use Rattle.tracking.specs.declared.Floor.{Floor}
 use Rattle.dynamic.specs.Record.{sound, openKeeps, queueKeeps, lowestQueued}
 use Rattle.dynamic.specs.declared.Table.{Table}
@@ -106,9 +105,7 @@ returns-5 c =
     ))
 
 open-floor-requires : tie.Need-open-floor-requires
-open-floor-requires c κs =
-    let k = kept (four (before-queue c) .ring) (rings (before-known (before-most (before-waiting (before-queue c))))) in
-    (k .rules .order, k .counted)
+open-floor-requires c κs = search needs
 
 returns-6 : tie.Need-returns-6
 returns-6 c =

@@ -13,7 +13,8 @@ use Rattle.dynamic.specs.Calls.{latestOf}
 use Rattle.dynamic.specs.Record.{sound}
 use Rattle.dynamic.proofs.Told.{told-sound}
 use Rattle.dynamic.proofs.Finding.{finds, find-unsound, find-short, find-closed, find-nothing, find-full, find-at}
-use Rattle.dynamic.proofs.Refer.{found-within, found-at, found-none, Refers, near}
+use Rattle.dynamic.proofs.Searched.{found-within, found-at, found-none}
+use Rattle.dynamic.proofs.Refer.{Refers, near}
 use Rattle.dynamic.proofs.Table.find.Statement.{statement}
 use Rattle.dynamic.proofs.Table.find.Tie as tie
 

@@ -10,7 +10,8 @@ use denote.Ref.{now}
 use Rattle.model.specs.Bounds.{sectionEntries}
 use Rattle.static_table.specs.Static.{found, lowestName}
 use Rattle.dynamic.specs.Calls.{latestOf}
-use Rattle.dynamic.proofs.Refer.{found-within, found-at, found-none, Refers, near}
+use Rattle.dynamic.proofs.Searched.{found-within, found-at, found-none}
+use Rattle.dynamic.proofs.Refer.{Refers, near}
 use Rattle.dynamic.proofs.Unmade.{only-static, only-nothing, only-full, only-name}
 use Rattle.dynamic.proofs.Table.name_only.Statement.{statement}
 use Rattle.dynamic.proofs.Table.name_only.Tie as tie
