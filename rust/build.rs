@@ -9,9 +9,16 @@ fn main() {
         None => here.join("../target/staticlib"),
     };
     let target = env::var("TARGET").expect("cargo sets it");
-    assert!(target.starts_with("x86_64-") && target.contains("linux"), "libembed.a is for x86-64 Linux, not for {target}");
+    assert!(
+        target.starts_with("x86_64-") && target.contains("linux"),
+        "libembed.a is for x86-64 Linux, not for {target}"
+    );
     let archive = folder.join("libembed.a");
-    assert!(archive.is_file(), "{} is missing: run `rt staticlib embed`", archive.display());
+    assert!(
+        archive.is_file(),
+        "{} is missing: run `rt staticlib embed`",
+        archive.display()
+    );
     println!("cargo:rerun-if-changed={}", archive.display());
     println!("cargo:rustc-link-search=native={}", folder.display());
     println!("cargo:rustc-link-lib=static=embed");

@@ -26,7 +26,9 @@ impl Record {
 
     /// The field's name and value in the buffer; none where the buffer does not have them.
     pub fn split<'a>(&self, out: &'a [u8]) -> Option<(&'a [u8], &'a [u8])> {
-        let both = out.get(self.0[0]..)?.get(..self.0[1].checked_add(self.0[2])?)?;
+        let both = out
+            .get(self.0[0]..)?
+            .get(..self.0[1].checked_add(self.0[2])?)?;
         Some(both.split_at(self.0[1]))
     }
 }
@@ -89,7 +91,12 @@ pub(crate) fn numbers(records: &mut [Record]) -> *mut [usize; 3] {
 }
 
 /// Reads a section with no dynamic table into lent buffers; `most` is the largest size sum.
-pub fn read_stateless(section: &[u8], most: usize, records: &mut [Record], out: &mut [u8]) -> Result<Stored, SectionError> {
+pub fn read_stateless(
+    section: &[u8],
+    most: usize,
+    records: &mut [Record],
+    out: &mut [u8],
+) -> Result<Stored, SectionError> {
     // SAFETY: each pointer comes with its own slice's length, and the two `&mut` overlap with nothing.
     stored(unsafe {
         ffi::qpack_read_stateless(
@@ -106,7 +113,9 @@ pub fn read_stateless(section: &[u8], most: usize, records: &mut [Record], out: 
 
 /// Reads a section with no dynamic table; `max_size` is the largest size sum.
 pub fn decode_stateless(section: &[u8], max_size: usize) -> Result<Decoded, Error> {
-    grown(section, max_size, |records, out| read_stateless(section, max_size, records, out))
+    grown(section, max_size, |records, out| {
+        read_stateless(section, max_size, records, out)
+    })
 }
 
 /// Reads into buffers that grow while the bytes do not fit, up to `most` bytes.
@@ -121,7 +130,9 @@ pub(crate) fn grown(
     loop {
         let mut out = vec![0; room];
         match read(&mut records, &mut out) {
-            Err(e) if e.error == Error::OutputFull && room < most => room = most.min(room.saturating_mul(4)),
+            Err(e) if e.error == Error::OutputFull && room < most => {
+                room = most.min(room.saturating_mul(4))
+            }
             Err(e) => return Err(e.error),
             Ok(s) => return Ok(decoded(&records[..s.count], &out, s)),
         }

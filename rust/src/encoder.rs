@@ -14,7 +14,9 @@ impl<'a> Encoder<'a> {
 
     /// What relative and post-base indexes of the section count from.
     pub fn base(&self) -> usize {
-        self.table.base().expect("the section is open while its guard stands")
+        self.table
+            .base()
+            .expect("the section is open while its guard stands")
     }
 
     pub fn total_inserted(&self) -> usize {

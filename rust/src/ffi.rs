@@ -163,7 +163,11 @@ extern "C" {
         out: *mut u8,
         out_len: usize,
     ) -> EncoderOutcome;
-    pub fn qpack_on_decoder_recv(table: Table, bytes: *const u8, bytes_len: usize) -> DecoderOutcome;
+    pub fn qpack_on_decoder_recv(
+        table: Table,
+        bytes: *const u8,
+        bytes_len: usize,
+    ) -> DecoderOutcome;
     pub fn qpack_read_section(
         table: Table,
         arena: *const u8,

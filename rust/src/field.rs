@@ -69,9 +69,21 @@ impl crate::ffi::Named {
         let (index, postbase, absolute) = (self.index, self.postbase, self.absolute);
         match self.kind {
             4 => Insertion::Inserted { postbase, absolute },
-            5 => Insertion::Duplicated { relative: index, postbase, absolute },
-            6 => Insertion::InsertedWithNameRef { postbase, relative: index, absolute },
-            7 => Insertion::InsertedWithStaticNameRef { postbase, index, absolute },
+            5 => Insertion::Duplicated {
+                relative: index,
+                postbase,
+                absolute,
+            },
+            6 => Insertion::InsertedWithNameRef {
+                postbase,
+                relative: index,
+                absolute,
+            },
+            7 => Insertion::InsertedWithStaticNameRef {
+                postbase,
+                index,
+                absolute,
+            },
             _ => Insertion::NotInserted(self.lookup()),
         }
     }

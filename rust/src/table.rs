@@ -189,7 +189,11 @@ impl Table {
     }
 
     /// Applies the whole instructions of the peer's encoder stream, and writes the increment to `out`, which has at least `INCREMENT` bytes.
-    pub fn on_encoder_recv(&mut self, bytes: &[u8], out: &mut [u8]) -> Result<Received, StreamError> {
+    pub fn on_encoder_recv(
+        &mut self,
+        bytes: &[u8],
+        out: &mut [u8],
+    ) -> Result<Received, StreamError> {
         let o = unsafe {
             ffi::qpack_on_encoder_recv(
                 *self.record,
@@ -209,7 +213,10 @@ impl Table {
         };
         Error::check(o.answer)
             .map(|()| received)
-            .map_err(|error| StreamError { error, consumed: o.consumed })
+            .map_err(|error| StreamError {
+                error,
+                consumed: o.consumed,
+            })
     }
 
     /// Applies the whole reports of the peer's decoder stream, and says how many bytes they were.
@@ -218,11 +225,19 @@ impl Table {
         *self.record = o.table;
         Error::check(o.answer)
             .map(|()| o.consumed)
-            .map_err(|error| StreamError { error, consumed: o.consumed })
+            .map_err(|error| StreamError {
+                error,
+                consumed: o.consumed,
+            })
     }
 
     /// Reads a section into lent buffers.
-    pub fn read_section(&self, section: &[u8], records: &mut [Record], out: &mut [u8]) -> Result<Stored, SectionError> {
+    pub fn read_section(
+        &self,
+        section: &[u8],
+        records: &mut [Record],
+        out: &mut [u8],
+    ) -> Result<Stored, SectionError> {
         stored(unsafe {
             ffi::qpack_read_section(
                 *self.record,
@@ -240,7 +255,9 @@ impl Table {
 
     /// Reads a section whose names and values have at most `most` bytes together; more is `OutputFull`.
     pub fn decode_header(&self, section: &[u8], most: usize) -> Result<Decoded, Error> {
-        grown(section, most, |records, out| self.read_section(section, records, out))
+        grown(section, most, |records, out| {
+            self.read_section(section, records, out)
+        })
     }
 
     /// The capacity in force.
@@ -270,7 +287,7 @@ impl Table {
 
     /// The open section's base, if one is open.
     pub fn base(&self) -> Option<usize> {
-        self.record.active.then(|| self.record.base)
+        self.record.active.then_some(self.record.base)
     }
 
     #[cfg(test)]

@@ -22,14 +22,19 @@ fn lists() -> Vec<PathBuf> {
     }
     let folder = PathBuf::from(env!("CARGO_MANIFEST_DIR")).join("../tests/lists");
     let entries = fs::read_dir(&folder).unwrap_or_else(|e| panic!("{}: {e}", folder.display()));
-    let mut files: Vec<PathBuf> = entries.map(|entry| entry.expect("an entry").path()).collect();
+    let mut files: Vec<PathBuf> = entries
+        .map(|entry| entry.expect("an entry").path())
+        .collect();
     files.retain(|file| file.extension().map_or(false, |e| e == "replay"));
     files.sort();
     files
 }
 
 /// The stored records and bytes as the list shows them.
-fn section(c: &Call, read: impl Fn(&mut [Record], &mut [u8]) -> Result<Stored, SectionError>) -> String {
+fn section(
+    c: &Call,
+    read: impl Fn(&mut [Record], &mut [u8]) -> Result<Stored, SectionError>,
+) -> String {
     let fill = c.number("fill") as usize;
     let blank = Record::new(fill & 255, fill & 255, fill & 255);
     let mut records = vec![blank; c.number("records") as usize];
@@ -38,9 +43,14 @@ fn section(c: &Call, read: impl Fn(&mut [Record], &mut [u8]) -> Result<Stored, S
         Ok(s) => (0, s),
         Err(e) => (e.error.number(), e.stored),
     };
-    let listed = answer::shown(&records, &blank, |r| format!(" {}:{}:{}", r.start(), r.name_len(), r.value_len()));
+    let listed = answer::shown(&records, &blank, |r| {
+        format!(" {}:{}:{}", r.start(), r.name_len(), r.value_len())
+    });
     let (flag, buffer) = (u8::from(s.dynamic), answer::buffer(&out, c.fill()));
-    format!("{number} {flag} {} {} {} records{listed}{buffer}", s.count, s.used, s.size)
+    format!(
+        "{number} {flag} {} {} {} records{listed}{buffer}",
+        s.count, s.used, s.size
+    )
 }
 
 fn on_encoder_recv(t: &mut Table, c: &Call) -> String {
@@ -49,7 +59,11 @@ fn on_encoder_recv(t: &mut Table, c: &Call) -> String {
         Ok(r) => (0, r.consumed, r.written),
         Err(e) => (e.error.number(), e.consumed, 0),
     };
-    format!("{number} {consumed} {} {written}{}", t.inserted(), answer::buffer(&out, c.fill()))
+    format!(
+        "{number} {consumed} {} {written}{}",
+        t.inserted(),
+        answer::buffer(&out, c.fill())
+    )
 }
 
 fn on_decoder_recv(t: &mut Table, c: &Call) -> String {
@@ -81,10 +95,14 @@ fn made(tables: &mut [Table; 4], c: &Call) -> Option<String> {
         "increment" => answer::done(t.increment(c.number("inserts") as usize)),
         "on_encoder_recv" => on_encoder_recv(t, c),
         "on_decoder_recv" => on_decoder_recv(t, c),
-        "section_on" => section(c, |records, out| t.read_section(&c.bytes("bytes"), records, out)),
+        "section_on" => section(c, |records, out| {
+            t.read_section(&c.bytes("bytes"), records, out)
+        }),
         "section_stateless" => {
             let most = c.number("max") as usize;
-            section(c, |records, out| read_stateless(&c.bytes("bytes"), most, records, out))
+            section(c, |records, out| {
+                read_stateless(&c.bytes("bytes"), most, records, out)
+            })
         }
         _ => return None,
     })
@@ -98,12 +116,22 @@ fn short_arena(c: &Call) -> bool {
 fn replay(text: &str, file: &str, count: &mut Count) {
     let mut tables = [Table::new(), Table::new(), Table::new(), Table::new()];
     let mut left = false;
-    let mut lines = text.lines().enumerate().filter(|(_, l)| !l.trim().is_empty() && !l.starts_with('#'));
+    let mut lines = text
+        .lines()
+        .enumerate()
+        .filter(|(_, l)| !l.trim().is_empty() && !l.starts_with('#'));
     while let Some((at, line)) = lines.next() {
-        let recorded = lines.next().and_then(|(_, l)| l.strip_prefix("= ")).unwrap_or_else(|| panic!("{file}:{}: no answer follows", at + 1));
+        let recorded = lines
+            .next()
+            .and_then(|(_, l)| l.strip_prefix("= "))
+            .unwrap_or_else(|| panic!("{file}:{}: no answer follows", at + 1));
         let c = Call::read(line);
         left = (left || FROM_OUTSIDE.contains(&c.word.as_str())) && c.word != "fresh";
-        let ours = if left || short_arena(&c) { None } else { made(&mut tables, &c) };
+        let ours = if left || short_arena(&c) {
+            None
+        } else {
+            made(&mut tables, &c)
+        };
         match ours {
             None => count.passed_over += 1,
             Some(ours) => {

@@ -9,13 +9,20 @@ pub fn run() -> Result<(), Error> {
     let mut table = Table::new();
     let mut increment = [0; INCREMENT];
     let received = table.on_encoder_recv(STREAM, &mut increment)?;
-    print!("consumed {}, inserted {}, increment", received.consumed, received.inserted);
+    print!(
+        "consumed {}, inserted {}, increment",
+        received.consumed, received.inserted
+    );
     for byte in &increment[..received.written] {
         print!(" {byte:02x}");
     }
     println!();
     for field in table.decode_header(SECTION, 256)?.fields {
-        println!("{}: {}", String::from_utf8_lossy(&field.name), String::from_utf8_lossy(&field.value));
+        println!(
+            "{}: {}",
+            String::from_utf8_lossy(&field.name),
+            String::from_utf8_lossy(&field.value)
+        );
     }
     Ok(())
 }

@@ -28,9 +28,21 @@ pub fn find(r: Result<Lookup, Error>) -> String {
 pub fn insert(r: Result<Insertion, Error>) -> String {
     told(r, |i| match i {
         Insertion::Inserted { postbase, absolute } => format!(" inserted {postbase} {absolute}"),
-        Insertion::Duplicated { relative, postbase, absolute } => format!(" duplicated {relative} {postbase} {absolute}"),
-        Insertion::InsertedWithNameRef { postbase, relative, absolute } => format!(" with-name {postbase} {relative} {absolute}"),
-        Insertion::InsertedWithStaticNameRef { postbase, index, absolute } => format!(" with-static-name {postbase} {index} {absolute}"),
+        Insertion::Duplicated {
+            relative,
+            postbase,
+            absolute,
+        } => format!(" duplicated {relative} {postbase} {absolute}"),
+        Insertion::InsertedWithNameRef {
+            postbase,
+            relative,
+            absolute,
+        } => format!(" with-name {postbase} {relative} {absolute}"),
+        Insertion::InsertedWithStaticNameRef {
+            postbase,
+            index,
+            absolute,
+        } => format!(" with-static-name {postbase} {index} {absolute}"),
         Insertion::NotInserted(l) => format!(" not-inserted{}", lookup(l)),
     })
 }

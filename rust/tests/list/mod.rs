@@ -35,7 +35,11 @@ impl Call {
         let (mut table, mut given) = (0, Vec::new());
         for w in words {
             match w.split_once('=') {
-                None => table = w.parse().unwrap_or_else(|_| panic!("{line}: {w} is no table")),
+                None => {
+                    table = w
+                        .parse()
+                        .unwrap_or_else(|_| panic!("{line}: {w} is no table"))
+                }
                 Some((name, value)) => given.push((name.to_string(), value.to_string())),
             }
         }
@@ -48,7 +52,9 @@ impl Call {
 
     fn text(&self, name: &str) -> &str {
         let found = self.given.iter().find(|(n, _)| n == name);
-        &found.unwrap_or_else(|| panic!("{} has no {name}=", self.word)).1
+        &found
+            .unwrap_or_else(|| panic!("{} has no {name}=", self.word))
+            .1
     }
 
     pub fn number(&self, name: &str) -> u64 {
@@ -62,7 +68,11 @@ impl Call {
 
     pub fn bytes(&self, name: &str) -> Vec<u8> {
         let text = self.text(name);
-        let end = if text.starts_with('"') { text.rfind('"').expect("a quote") + 1 } else { text.find('*').unwrap_or(text.len()) };
+        let end = if text.starts_with('"') {
+            text.rfind('"').expect("a quote") + 1
+        } else {
+            text.find('*').unwrap_or(text.len())
+        };
         let times = match text[end..].strip_prefix('*') {
             Some(times) => times.parse().expect("a count"),
             None => 1,
