@@ -1,8 +1,9 @@
 #!/usr/bin/env python3
 """Turns readable lines of calls into the binary script that the program replay reads, and back (docs/REPLAY.md).
 
-    python3 tests/replay.py < lines > script
-    python3 tests/replay.py --show < script > lines
+    python3 tests/replay.py [FILE..] < lines > script
+    python3 tests/replay.py --answers [FILE..] < lines > answers
+    python3 tests/replay.py --show [FILE..] < script > lines
 """
 import re
 import sys
@@ -74,6 +75,33 @@ CALLS = [
     ("shape_write_int_text", 0, 1, "at width flags index", "value"),
     ("shape_write_texts", 0, 1, "at width flags", "name value"),
     ("push_reply", 0, 0, "push capacity", ""),
+    ("arena_write", 2, 0, "at", "bytes"),
+    ("arena_is_at", 2, 0, "at", "bytes"),
+    ("arena_move", 2, 0, "len from to", ""),
+    ("arena_copy", 2, 1, "from len at", ""),
+    ("entries_check", 1, 0, "dropped inserted size capacity tail head", ""),
+    ("entries_fewest", 1, 0, "dropped inserted size tail free room", ""),
+    ("entries_newest", 2, 0, "dropped inserted whole", "name value"),
+    ("ring_sound", 1, 0, "", ""),
+    ("ring_room", 1, 0, "low name value", ""),
+    ("ring_push", 2, 0, "source position low", "name value"),
+    ("ring_cut", 1, 0, "low capacity", ""),
+    ("ring_newest", 2, 0, "gone whole", "name value"),
+    ("track_note", 1, 0, "offset", ""),
+    ("track_section_floor", 1, 0, "dropped inserted low", ""),
+    ("track_queue_floor", 1, 0, "dropped inserted low", ""),
+    ("track_push", 1, 0, "", ""),
+    ("track_release", 1, 0, "stream", ""),
+    ("track_waiting_ok", 1, 0, "", ""),
+    ("track_block", 1, 0, "largest", ""),
+    ("track_let_go", 1, 0, "known", ""),
+    ("answer_number", 0, 0, "refusal", ""),
+    ("answer_ends_early", 0, 0, "refusal", ""),
+    ("next_on", 2, 1, "records started dynamic base at used count size", "bytes"),
+    ("next_stateless", 0, 1, "records started dynamic base at used count size max", "bytes"),
+    ("static_entry", 0, 0, "index", ""),
+    ("entry_on", 1, 0, "reference base index", ""),
+    ("entry_static", 0, 0, "reference index", ""),
 ]
 
 # Words that may stand for a number.
@@ -84,6 +112,7 @@ WORDS = {
     ],
     "reference": ["static", "relative", "post-base"],
     "push": ["made", "too-large", "no-room", "full", "bad-call"],
+    "source": ["given", "copy-of", "name-of"],
     "field": [
         "inserted", "dropped", "size", "capacity", "tail", "head", "starts", "names", "values", "known", "most",
         "total", "distinct", "largest", "sections", "queued", "place.stream", "place.from", "place.used",
@@ -181,15 +210,38 @@ def script_of(line):
     return script
 
 
-def write_script(lines, out):
-    for at, line in enumerate(lines, 1):
-        line = line.strip()
-        if not line or line.startswith("#"):
-            continue
+def calls_of(files):
+    """Each call's line in some files: where it stands, the line, and the answers that are expected after it."""
+    calls = []
+    for name, data in files:
+        for at, line in enumerate(data.decode().split("\n"), 1):
+            where, line = f"{name}line {at}", line.strip()
+            if not line or line.startswith("#"):
+                continue
+            if not line.startswith("="):
+                calls.append((where, line, []))
+                continue
+            if not calls:
+                raise Bad(f"{where}: an answer before the first call")
+            calls[-1][2].append((where, line[1:].strip()))
+    return calls
+
+
+def write_script(files, out):
+    for where, line, _ in calls_of(files):
         try:
             out.write(script_of(line))
         except Bad as why:
-            raise Bad(f"line {at}: {why}")
+            raise Bad(f"{where}: {why}")
+
+
+def write_answers(files, out):
+    for where, line, answers in calls_of(files):
+        if not answers:
+            raise Bad(f"{where}: no answer is expected of {line.split()[0]}")
+        if len(answers) > 1:
+            raise Bad(f"{answers[1][0]}: a second answer to one call")
+        out.write(answers[0][1] + "\n")
 
 
 def shown(body):
@@ -229,14 +281,32 @@ def write_lines(data, out):
         out.write(" ".join(words) + "\n")
 
 
+def read_files(names):
+    """Each file's name as messages say it, and its bytes; standard input where no file is named."""
+    if not names:
+        return [("", sys.stdin.buffer.read())]
+    files = []
+    for name in names:
+        try:
+            with open(name, "rb") as f:
+                files.append((f"{name}: ", f.read()))
+        except OSError as why:
+            raise Bad(f"{name}: {why.strerror}")
+    return files
+
+
 def main():
-    args = sys.argv[1:]
-    if args not in ([], ["--show"]):
-        raise Bad("usage: replay.py [--show] < input > output")
-    if args:
-        write_lines(sys.stdin.buffer.read(), sys.stdout)
+    modes = [word for word in sys.argv[1:] if word.startswith("--")]
+    files = [word for word in sys.argv[1:] if not word.startswith("--")]
+    if modes not in ([], ["--show"], ["--answers"]):
+        raise Bad("usage: replay.py [--show | --answers] [FILE..]")
+    data = read_files(files)
+    if modes == ["--show"]:
+        write_lines(b"".join(part for _, part in data), sys.stdout)
+    elif modes == ["--answers"]:
+        write_answers(data, sys.stdout)
     else:
-        write_script(sys.stdin.buffer.read().decode().split("\n"), sys.stdout.buffer)
+        write_script(data, sys.stdout.buffer)
 
 
 if __name__ == "__main__":

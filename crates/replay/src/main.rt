@@ -1,182 +1,21 @@
 // A script of calls on standard input, made on the library one after the other, with an answer line for each.
-mod answer;
-mod bytes;
-mod compare;
-mod edit;
-mod input;
-mod kinds;
-mod leaf;
-mod opcodes;
-mod place;
-mod read;
-mod section;
-mod show;
-mod text;
-mod write;
+use dynamic::Table;
+use script::bounds;
+use script::input;
+use script::input::Command;
+use script::input::LONGEST;
+use script::input::Texts;
+use script::text;
+use script::text::Line;
 
-use input::Command;
-use place::Place;
-use text::Line;
+// How many bytes the arenas of all tables have.
+const ARENAS: usize = 66560;
+
+// How many bytes the first string's buffer has: 8 more than the longest string, for the length of the second.
+const NAME: usize = 65544;
 
 // A loop has to end, and nothing says that a script does: a number that no run uses up.
 const MOST_COMMANDS: u64 = 9223372036854775807;
-
-// A call on a table.
-fn on_table(p: Place, c: Command, name: &[u8], value: &[u8]) -> Place {
-    let op = c.op;
-    match op {
-        3 => place::put(p, c, name, value),
-        5 => place::find(p, c, name, value),
-        6 => place::insert(p, c, name, value),
-        12 => place::checked(p),
-        13 => place::on_encoder_recv(p, c, name),
-        14 => place::on_decoder_recv(p, name),
-        _ => place::plain(p, op, c.a),
-    }
-}
-
-// A call on a record or on an arena.
-fn on_record(p: Place, q: Place, c: Command, s: &[u8]) -> Place {
-    let op = c.op;
-    match op {
-        15 => show::show(p),
-        16 => edit::set(p, c),
-        17 => bytes::write_arena(p, c.a, s),
-        18 => bytes::read_arena(p, c.a, c.b),
-        19 => bytes::copy(q),
-        20 => compare::compare(p, q),
-        _ => place::line_on(p, c.a as usize, s, c.b as usize),
-    }
-}
-
-// A reader's call.
-fn reads(c: Command, s: &[u8]) -> Line {
-    let op = c.op;
-    let at = c.a as usize;
-    match op {
-        22 => read::report(s, at),
-        23 => read::instruction(s, at),
-        24 => read::prefix(s, at, c.b as usize, c.c as usize),
-        25 => read::line_static(s, at),
-        26 => leaf::int_read(s, at, c.b),
-        30 => leaf::text_read(s, at, c.b),
-        42 => read::integer(s, c.b as usize, c.a),
-        43 => read::name_ref(s, at),
-        44 => read::literal(s, at),
-        60 => leaf::text_after(s, at, c.b),
-        61 => leaf::texts(s, at, c.b),
-        _ => read::line(s, at),
-    }
-}
-
-// A call on numbers, or on the static table.
-fn asks(c: Command, name: &[u8], value: &[u8]) -> Line {
-    let op = c.op;
-    match op {
-        27 => leaf::int_size(c.a, c.b),
-        28 => leaf::int_ok(c.a, c.b),
-        31 => leaf::text_size(c.a as usize, c.b, c.c),
-        33 => leaf::static_get(c.a),
-        34 => leaf::static_find(name, value),
-        35 => leaf::static_find_name(name),
-        52..=54 => kinds::first(op, c.a),
-        55 => kinds::form(c.a),
-        56 => kinds::head(c.a, c.b),
-        57 => leaf::capacity(c.a as usize),
-        64 => leaf::push_reply(c.a, c.b as usize),
-        _ => leaf::address(op, c.a as usize, c.b as usize, c.c as usize, c.d as usize),
-    }
-}
-
-// A call without a table.
-fn alone(c: Command, name: &[u8], value: &[u8]) {
-    let op = c.op;
-    match op {
-        22..=26 | 30 | 42..=44 | 48 | 60..=61 => text::end(reads(c, name)),
-        29 | 32 | 36 | 45..=47 | 49..=51 | 62..=63 => write::write(c, name, value),
-        _ => text::end(asks(c, name, value)),
-    }
-}
-
-// A command's call, and the place after it.
-fn call(p: Place, q: Place, c: Command, name: &[u8], value: &[u8]) -> Place {
-    let op = c.op;
-    if op < 15 {
-        return on_table(p, c, name, value);
-    }
-    if op < 22 {
-        return on_record(p, q, c, name);
-    }
-    if op == 58 {
-        return section::on_table(p, c, name);
-    }
-    if op == 59 {
-        section::stateless(c, name);
-        return p;
-    }
-    alone(c, name, value);
-    p
-}
-
-// Why a command with a string of a length is not taken.
-fn late_fault(c: Command, len: usize) -> u8 {
-    let op = c.op;
-    match op {
-        16 => {
-            if edit::has_element(c.a, c.b) {
-                return input::TAKEN;
-            }
-            input::PAST_FIELD
-        }
-        17 => {
-            if bytes::is_inside(c.a, len as u64) {
-                return input::TAKEN;
-            }
-            input::PAST_ARENA
-        }
-        18 => {
-            if bytes::is_inside(c.a, c.b) {
-                return input::TAKEN;
-            }
-            input::PAST_ARENA
-        }
-        _ => input::TAKEN,
-    }
-}
-
-// A place after a command, and why the command was not taken.
-struct Ran {
-    place: Place,
-    fault: u8,
-}
-
-fn faulty(place: Place, fault: u8) -> Ran {
-    Ran { place, fault }
-}
-
-// Reads a command's strings and makes its call.
-fn run(p: Place, q: Place, c: Command) -> Ran {
-    let mut name = io::large_buffer();
-    let n = input::text(0 < c.strings, &mut name);
-    if n.fault != input::TAKEN {
-        return faulty(p, n.fault);
-    }
-    let mut value = io::large_buffer();
-    let v = input::text(1 < c.strings, &mut value);
-    if v.fault != input::TAKEN {
-        return faulty(p, v.fault);
-    }
-    let fault = late_fault(c, n.len);
-    if fault != input::TAKEN {
-        return faulty(p, fault);
-    }
-    let name_len = text::within(n.len, &name);
-    let value_len = text::within(v.len, &value);
-    Ran {
-        place: call(p, q, c, &name[..name_len], &value[..value_len]),
-        fault: input::TAKEN,
-    }
-}
 
 fn reason(line: Line, fault: u8) -> Line {
     match fault {
@@ -202,27 +41,84 @@ fn stop(fault: u8, at: u64) {
     text::end(reason(line, fault));
 }
 
+// Why a command is not taken, its numbers or its strings.
+fn fault_of(c: Command, x: Texts) -> u8 {
+    if x.fault != input::TAKEN {
+        return x.fault;
+    }
+    bounds::fault_of(c, x.name)
+}
+
+// A command's strings, where its numbers are taken.
+fn texts_of(c: Command, name: &mut [u8; NAME], value: &mut [u8; LONGEST]) -> Texts {
+    if c.fault != input::TAKEN {
+        return Texts {
+            fault: c.fault,
+            name: 0,
+            value: 0,
+        };
+    }
+    input::read_texts(c, name, value)
+}
+
+// A command on one table.
+fn on_one(
+    t: Table,
+    c: Command,
+    x: Texts,
+    arenas: &mut [u8; ARENAS],
+    name: &[u8; NAME],
+    value: &[u8; LONGEST],
+    out: &mut [u8; LONGEST],
+) -> Table {
+    script_calls::with_table(t, c, x, arenas, name, value, out)
+}
+
+// A command on two tables.
+fn on_two(t: Table, other: Table, c: Command, arenas: &mut [u8; ARENAS]) -> Table {
+    script_calls::of_two(t, other, c, arenas)
+}
+
+// A command without a table.
+fn on_none(
+    c: Command,
+    x: Texts,
+    name: &[u8; NAME],
+    value: &[u8; LONGEST],
+    out: &mut [u8; LONGEST],
+) {
+    script_calls::without_table(c, x, name, value, out)
+}
+
 fn main() {
-    let none = place::fresh();
-    let mut places = [none; 4];
+    let none = Table::fresh();
+    let mut tables = [none; 4];
+    let mut arenas = [0; ARENAS];
+    let mut name = [0; NAME];
+    let mut value = [0; LONGEST];
+    let mut out = [0; LONGEST];
     let mut made = 0;
     while made < MOST_COMMANDS {
         let c = input::next();
-        if c.fault != input::TAKEN {
-            stop(c.fault, made + 1);
+        let x = texts_of(c, &mut name, &mut value);
+        let fault = fault_of(c, x);
+        made += 1;
+        if fault != input::TAKEN {
+            stop(fault, made);
             return;
+        }
+        let group = script_calls::group_of(c.op);
+        if script_calls::WITHOUT_TABLE <= group {
+            on_none(c, x, &name, &value, &mut out);
+            continue;
         }
         let i = c.table % 4;
-        let j = (c.a % 4) as usize;
-        let p = places[i];
-        let q = places[j];
-        let r = run(p, q, c);
-        if r.fault != input::TAKEN {
-            stop(r.fault, made + 1);
-            return;
+        let t = tables[i];
+        if group == script_calls::OF_TWO {
+            let other = tables[(c.a % 4) as usize];
+            tables[i] = on_two(t, other, c, &mut arenas);
+            continue;
         }
-        let next = r.place;
-        places[i] = next;
-        made += 1;
+        tables[i] = on_one(t, c, x, &mut arenas, &name, &value, &mut out);
     }
 }

@@ -1,17 +1,17 @@
 -- `replay::main`: the tables stay four, and the commands that are left fall. Assumes nothing.
 use native.Mathlib.Omega.{arith}
-use lib.ListN.{length, length-set}
 use borrow.Author.Needs.{needs}
 use Prim.Native.Nat.{_≤_, _-_}
 use mathlib.Core.Path.{_≡_}
+use lib.ListN.{length, length-set}
 use Rattle.replay.proofs.main.Statement.{statement}
 use Rattle.replay.proofs.main.Tie as tie
 
 abbrev Inv-loop : tie.InvT-loop
-Inv-loop places₀ made₀ places made = (length places ≡ 4) × (made ≤ 9223372036854775807)
+Inv-loop tables₀ arenas₀ name₀ value₀ out₀ made₀ tables arenas name value out made = (length tables ≡ 4) × (made ≤ 9223372036854775807)
 
 abbrev μ-loop : tie.MeasureT-loop
-μ-loop places₀ made₀ places made = 9223372036854775807 - made
+μ-loop tables₀ arenas₀ name₀ value₀ out₀ made₀ tables arenas name value out made = 9223372036854775807 - made
 
 fresh-requires : tie.Need-fresh-requires Inv-loop μ-loop
 fresh-requires c κs = search needs
@@ -22,8 +22,14 @@ loop-holds c = search needs
 next-requires : tie.Need-next-requires Inv-loop μ-loop
 next-requires c κs = search needs
 
-add-stop : tie.Need-add-stop Inv-loop μ-loop
-add-stop c = search needs
+texts-of-requires : tie.Need-texts-of-requires Inv-loop μ-loop
+texts-of-requires c κs = search needs
+
+fault-of-requires : tie.Need-fault-of-requires Inv-loop μ-loop
+fault-of-requires c κs = search needs
+
+add-made : tie.Need-add-made Inv-loop μ-loop
+add-made c = search needs
 
 stop-requires : tie.Need-stop-requires Inv-loop μ-loop
 stop-requires c κs = search needs
@@ -31,47 +37,62 @@ stop-requires c κs = search needs
 returns : tie.Need-returns Inv-loop μ-loop
 returns c = search needs
 
-mul-p : tie.Need-mul-p Inv-loop μ-loop
-mul-p c = search needs
+group-of-requires : tie.Need-group-of-requires Inv-loop μ-loop
+group-of-requires c κs = search needs
 
-array-copy-out-p : tie.Need-array-copy-out-p Inv-loop μ-loop
-array-copy-out-p c = search needs
-
-mul-q : tie.Need-mul-q Inv-loop μ-loop
-mul-q c = search needs
-
-array-copy-out-q : tie.Need-array-copy-out-q Inv-loop μ-loop
-array-copy-out-q c = search needs
-
-run-requires : tie.Need-run-requires Inv-loop μ-loop
-run-requires c κs = search needs
-
-add-stop-2 : tie.Need-add-stop-2 Inv-loop μ-loop
-add-stop-2 c = search needs
-
-stop-requires-2 : tie.Need-stop-requires-2 Inv-loop μ-loop
-stop-requires-2 c κs = search needs
-
-returns-2 : tie.Need-returns-2 Inv-loop μ-loop
-returns-2 c = search needs
-
-mul-places : tie.Need-mul-places Inv-loop μ-loop
-mul-places c = search needs
-
-array-set-from-places : tie.Need-array-set-from-places Inv-loop μ-loop
-array-set-from-places c = search needs
-
-add-made : tie.Need-add-made Inv-loop μ-loop
-add-made c = search needs
+on-none-requires : tie.Need-on-none-requires Inv-loop μ-loop
+on-none-requires c κs = search needs
 
 loop-less : tie.Need-loop-less Inv-loop μ-loop
 loop-less c = search needs
 
 loop-again : tie.Need-loop-again Inv-loop μ-loop
-loop-again c = (simp length-set (c .before .before .before .before .before .before .before .before .before .before .before .before .loop .inv .0), omega arith)
+loop-again c = search needs
 
-returns-3 : tie.Need-returns-3 Inv-loop μ-loop
-returns-3 c = search needs
+mul-t : tie.Need-mul-t Inv-loop μ-loop
+mul-t c = search needs
+
+array-copy-out-t : tie.Need-array-copy-out-t Inv-loop μ-loop
+array-copy-out-t c = search needs
+
+mul-other : tie.Need-mul-other Inv-loop μ-loop
+mul-other c = search needs
+
+array-copy-out-other : tie.Need-array-copy-out-other Inv-loop μ-loop
+array-copy-out-other c = search needs
+
+on-two-requires : tie.Need-on-two-requires Inv-loop μ-loop
+on-two-requires c κs = search needs
+
+mul-tables : tie.Need-mul-tables Inv-loop μ-loop
+mul-tables c = search needs
+
+array-set-from-tables : tie.Need-array-set-from-tables Inv-loop μ-loop
+array-set-from-tables c = search needs
+
+loop-less-2 : tie.Need-loop-less-2 Inv-loop μ-loop
+loop-less-2 c = omega (arith, c .before .before .before .before .before .before .before .before .before .before .before .before .before .before .before .before .loop .inv .1, c .before .before .before .before .before .before .before .before .before .before .before .before .before .before .before .loop-test .taken)
+
+loop-again-2 : tie.Need-loop-again-2 Inv-loop μ-loop
+loop-again-2 c = (simp length-set (c .before .before .before .before .before .before .before .before .before .before .before .before .before .before .before .before .loop .inv .0), omega (arith, c .before .before .before .before .before .before .before .before .before .before .before .before .before .before .before .before .loop .inv .1, c .before .before .before .before .before .before .before .before .before .before .before .before .before .before .before .loop-test .taken))
+
+on-one-requires : tie.Need-on-one-requires Inv-loop μ-loop
+on-one-requires c κs = search needs
+
+mul-tables-2 : tie.Need-mul-tables-2 Inv-loop μ-loop
+mul-tables-2 c = search needs
+
+array-set-from-tables-2 : tie.Need-array-set-from-tables-2 Inv-loop μ-loop
+array-set-from-tables-2 c = search needs
+
+loop-less-3 : tie.Need-loop-less-3 Inv-loop μ-loop
+loop-less-3 c = omega (arith, c .before .before .before .before .before .before .before .before .before .before .before .before .before .before .before .before .before .loop .inv .1, c .before .before .before .before .before .before .before .before .before .before .before .before .before .before .before .before .loop-test .taken)
+
+loop-again-3 : tie.Need-loop-again-3 Inv-loop μ-loop
+loop-again-3 c = (simp length-set (c .before .before .before .before .before .before .before .before .before .before .before .before .before .before .before .before .before .loop .inv .0), omega (arith, c .before .before .before .before .before .before .before .before .before .before .before .before .before .before .before .before .before .loop .inv .1, c .before .before .before .before .before .before .before .before .before .before .before .before .before .before .before .before .loop-test .taken))
+
+returns-2 : tie.Need-returns-2 Inv-loop μ-loop
+returns-2 c = search needs
 
 pub main-spec : {M : Type 1} → statement M
 main-spec =
@@ -82,20 +103,27 @@ main-spec =
     fresh-requires
     loop-holds
     next-requires
-    add-stop
+    texts-of-requires
+    fault-of-requires
+    add-made
     stop-requires
     returns
-    mul-p
-    array-copy-out-p
-    mul-q
-    array-copy-out-q
-    run-requires
-    add-stop-2
-    stop-requires-2
-    returns-2
-    mul-places
-    array-set-from-places
-    add-made
+    group-of-requires
+    on-none-requires
     loop-less
     loop-again
-    returns-3)
+    mul-t
+    array-copy-out-t
+    mul-other
+    array-copy-out-other
+    on-two-requires
+    mul-tables
+    array-set-from-tables
+    loop-less-2
+    loop-again-2
+    on-one-requires
+    mul-tables-2
+    array-set-from-tables-2
+    loop-less-3
+    loop-again-3
+    returns-2)

@@ -1,0 +1,63 @@
+-- `script_table::section::stateless`: the lent records are as many as asked for. Assumes nothing.
+use mathlib.Core.Path.{sym}
+use lib.Seq.{length-take-le}
+use borrow.Author.Needs.{needs}
+use Rattle.script_table.proofs.section.stateless.Statement.{statement}
+use Rattle.script_table.proofs.section.stateless.Tie as tie
+
+lent-of-requires : tie.Need-lent-of-requires
+lent-of-requires c κs = search needs
+
+wide-requires : tie.Need-wide-requires
+wide-requires c κs = search needs
+
+blank-requires : tie.Need-blank-requires
+blank-requires c κs = search needs
+
+fill-requires : tie.Need-fill-requires
+fill-requires c κs = search needs
+
+array-borrow-prefix-records : tie.Need-array-borrow-prefix-records
+array-borrow-prefix-records c = search needs
+
+slice-aggregate-read-stateless : tie.Need-slice-aggregate-read-stateless
+slice-aggregate-read-stateless c = sym (length-take-le _ _ (search needs))
+
+read-stateless-requires : tie.Need-read-stateless-requires
+read-stateless-requires c κs = search needs
+
+decoded-requires : tie.Need-decoded-requires
+decoded-requires c κs = search needs
+
+all-requires : tie.Need-all-requires
+all-requires c κs = search needs
+
+buffer-requires : tie.Need-buffer-requires
+buffer-requires c κs = search needs
+
+end-requires : tie.Need-end-requires
+end-requires c κs = search needs
+
+same-length : tie.Need-same-length
+same-length c = search needs
+
+returns : tie.Need-returns
+returns c = search needs
+
+pub stateless-spec : {M : Type 1} → statement M
+stateless-spec =
+    tie.close
+    (tie.spec
+    lent-of-requires
+    wide-requires
+    blank-requires
+    fill-requires
+    array-borrow-prefix-records
+    slice-aggregate-read-stateless
+    read-stateless-requires
+    decoded-requires
+    all-requires
+    buffer-requires
+    end-requires
+    same-length
+    returns)

@@ -1,0 +1,106 @@
+// Sections, read on a table or with none, into records and a buffer.
+ghost use mathlib.Core.Path.{_≡_};
+ghost use Prim.Native.Nat.{_≤_};
+ghost use lib.ListN.{length};
+use decoder::Decoded;
+use decoder::MaxSize;
+use dynamic::Table;
+use script::answer;
+use script::input::Command;
+use script::say;
+use script::text;
+use script::text::Line;
+
+// How many records are lent at the most.
+const RECORDS: usize = 1024;
+
+fn wide(x: u8) -> usize {
+    x as usize
+}
+
+// Records that were never written.
+fn blank(fill: usize) -> [[usize; 3]; RECORDS]
+    ensures { λ r. ⌜ 1024 ≡ length r ⌝ }
+{
+    [[fill; 3]; RECORDS]
+}
+
+// How many records a command lends.
+fn lent_of(n: u64) -> usize
+    ensures { λ r. ⌜ r ≤ 1024 ⌝ }
+{
+    (n % 1025) as usize
+}
+
+// Whether a record is one that was never written.
+fn is_filled(r: [usize; 3], fill: usize) -> bool {
+    (r[0] ^ fill) | (r[1] ^ fill) | (r[2] ^ fill) == 0
+}
+
+// How many of the first records there are up to the last one that was written.
+fn kept(records: [[usize; 3]; RECORDS], count: usize, fill: usize) -> usize
+    requires { ⌜ count ≤ 1024 ⌝ }
+    ensures { λ r. ⌜ r ≤ count ⌝ }
+{
+    let mut n = count;
+    while 0 < n {
+        let r = records[n - 1];
+        if !is_filled(r, fill) {
+            return n;
+        }
+        n -= 1;
+    }
+    n
+}
+
+// A record: where its bytes start, and how many its name and its value have.
+fn record(line: Line, r: [usize; 3]) -> Line {
+    let line = text::byte(text::number(line, r[0]), b':');
+    let line = text::byte(text::digits(line, r[1] as u64), b':');
+    text::digits(line, r[2] as u64)
+}
+
+// The first records.
+fn all(line: Line, records: [[usize; 3]; RECORDS], count: usize, fill: usize) -> Line
+    requires { ⌜ count ≤ 1024 ⌝ }
+{
+    let n = kept(records, count, fill);
+    let mut next = text::word(line, b"records");
+    let mut i = 0;
+    while i < n {
+        let r = records[i];
+        next = record(next, r);
+        i += 1;
+    }
+    text::more(next, count - n)
+}
+
+// A section's answer and its numbers.
+fn decoded(d: Decoded) -> Line {
+    let reply = d.reply;
+    let values = [answer::bit(d.dynamic), d.count, d.used, d.size, 0, 0];
+    say::line_of(answer::replied(reply, 4, values))
+}
+
+pub fn on_table(t: Table, c: Command, arena: &[u8], s: &[u8], out: &mut [u8]) {
+    let count = lent_of(c.a);
+    let fill = wide(c.fill);
+    let mut records = blank(fill);
+    text::fill(out, c.fill);
+    let d = decoder::read_on(s, arena, t, &mut records[..count], out);
+    let line = all(decoded(d), records, count, fill);
+    text::end(text::buffer(line, out, c.fill));
+}
+
+pub fn stateless(c: Command, s: &[u8], out: &mut [u8]) {
+    let count = lent_of(c.a);
+    let fill = wide(c.fill);
+    let mut records = blank(fill);
+    text::fill(out, c.fill);
+    let max = MaxSize {
+        bytes: c.b as usize,
+    };
+    let d = decoder::read_stateless(s, max, &mut records[..count], out);
+    let line = all(decoded(d), records, count, fill);
+    text::end(text::buffer(line, out, c.fill));
+}
