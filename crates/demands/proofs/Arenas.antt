@@ -10,8 +10,8 @@ use lib.Seq.{sets}
 use Rattle.answers.specs.Answer.{Answer, done, refused, andThen}
 use Rattle.arena.specs.Ring.{longEnough}
 use Rattle.decoder.specs.Section as section
-use Rattle.decoder.specs.declared.Cursor.{Cursor}
-use Rattle.decoder.specs.declared.Field.{Field as Kept}
+use Rattle.section_steps.specs.declared.Cursor.{Cursor}
+use Rattle.section_steps.specs.declared.Field.{Field as Kept}
 use Rattle.dynamic.specs.Calls as calls
 use Rattle.dynamic.specs.Record.{lowestUsed}
 use Rattle.dynamic.specs.declared.Table.{Table}

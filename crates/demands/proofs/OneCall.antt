@@ -9,8 +9,8 @@ use Rattle.answers.specs.Table.{replied, found, inserted}
 use Rattle.arena.specs.Ring.{longEnough, ringWrite}
 use Rattle.arena.proofs.RingWrite.{length-ringWrite}
 use Rattle.decoder.specs.Section as section
-use Rattle.decoder.specs.declared.Cursor.{Cursor}
-use Rattle.decoder.specs.declared.Line.{Line}
+use Rattle.section_steps.specs.declared.Cursor.{Cursor}
+use Rattle.section_steps.specs.declared.Line.{Line}
 use Rattle.dynamic.specs.Calls as calls
 use Rattle.dynamic.specs.Record.{view, sound, usable}
 use Rattle.dynamic.specs.declared.Inserting.{Inserting}

@@ -9,7 +9,7 @@ use Rattle.answers.specs.declared.Insert.{Insert}
 use Rattle.answers.specs.declared.Insertion.{Insertion}
 use Rattle.answers.specs.declared.Lookup.{Lookup}
 use Rattle.answers.specs.declared.Reply.{Reply}
-use Rattle.decoder.specs.declared.Decoded.{Decoded}
+use Rattle.section_steps.specs.declared.Decoded.{Decoded}
 use Rattle.dynamic.specs.Calls.{withRing}
 use Rattle.dynamic.specs.declared.Inserting.{Inserting}
 use Rattle.dynamic.specs.declared.Looked.{Looked}
