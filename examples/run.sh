@@ -2,7 +2,7 @@
 # Builds and runs an example: examples/run.sh c, or examples/run.sh rust. It makes the archive libembed.a first, and
 # installs what is missing from Debian's packages. The archive is for x86-64: on another processor the example is
 # built for x86-64 too, and runs under the kit's emulator.
-set -eu
+set -euo pipefail
 cd "$(dirname "$0")/.."
 case "$*" in c | rust) ;; *) echo "usage: examples/run.sh c|rust" >&2; exit 2 ;; esac
 machine=$(uname -m)
