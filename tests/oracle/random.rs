@@ -265,7 +265,7 @@ fn alone(r: &mut Random, m: &Mood, t: &Table) -> Command {
         2 => Command::new(op::INT_WRITE, 0, &[at, width, flags, value], &[]).buffer(room, fill),
         3 => Command::new(op::TEXT_READ, 0, &[at, width], &[&s]),
         4 => Command::new(op::TEXT_WRITE, 0, &[at, width, flags], &[&text]).buffer(room, fill),
-        5 => Command::new(op::STATIC_GET, 0, &[small * 2], &[]),
+        5 => Command::new(op::STATIC_GET, 0, &[small.wrapping_mul(2)], &[]),
         6 => Command::new(op::STATIC_FIND, 0, &[], &[&name, &text]),
         7 => Command::new(op::STATIC_FIND_NAME, 0, &[], &[&name]),
         8 => Command::new(op::VAS_RELATIVE, 0, &[i, d, small], &[]),

@@ -187,7 +187,7 @@ fn section_line(d: &Decoded, c: &Command) -> String {
         records.push_str(&format!(" {at}:{}:{}", f.name.len(), f.value.len()));
         at += f.name.len() + f.value.len();
     }
-    let more = c.numbers[0] as usize - kept;
+    let more = (c.numbers[0] as usize).saturating_sub(kept);
     let rest = if more > 0 { format!(" +{more}") } else { String::new() };
     let head = format!("0 {} {} {} {}", d.dyn_ref as u8, d.fields.len(), bytes.len(), d.mem_size);
     format!("{head} records{records}{rest} {}", buffer(&bytes, c.room, c.fill))
