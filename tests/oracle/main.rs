@@ -53,14 +53,9 @@ fn random(program: &str, seed: &str, end: &str) {
     let end = until(end);
     let mut p = Pair::start(program);
     let mut r = random::Random::new(seed);
-    let mut told = Instant::now();
     while !is_over(&end, p.steps) {
         if let Err(f) = random::episode(&mut p, &mut r, |_| ()) {
             fault(program, &p, f);
-        }
-        if told.elapsed() > Duration::from_secs(20) {
-            eprintln!("seed {seed}: {} steps", p.steps);
-            told = Instant::now();
         }
     }
     println!("random, seed {seed}: {} steps, no unlisted difference", p.steps);

@@ -7,6 +7,7 @@ use crate::script::{op, Command};
 use crate::streams;
 use crate::table::Table;
 use std::collections::BTreeMap;
+use std::time::{Duration, Instant};
 
 /// A difference that is on no list.
 pub struct Fault {
@@ -26,7 +27,12 @@ pub struct Pair {
     pub log: Vec<Command>,
     /// What the last step came to.
     pub last: Option<Met>,
+    /// When the number of steps was last told.
+    told: Instant,
 }
+
+/// How often a run tells how far it is.
+const TELLS: Duration = Duration::from_secs(20);
 
 /// A call, the number of its answer, and the listed difference that it is, if it is one; and our answer whole.
 #[derive(Clone, PartialEq)]
@@ -56,6 +62,7 @@ impl Pair {
             steps: 0,
             log: Vec::new(),
             last: None,
+            told: Instant::now(),
         }
     }
 
@@ -70,6 +77,10 @@ impl Pair {
 
     fn count(&mut self, c: &Command, ours: &str, l: Option<&'static Listed>) {
         self.steps += 1;
+        if self.steps % 4096 == 0 && self.told.elapsed() > TELLS {
+            eprintln!("{} steps", self.steps);
+            self.told = Instant::now();
+        }
         let number = ours.split(' ').next().unwrap_or("").parse().unwrap_or(99);
         *self.answers.entry((c.op, number)).or_insert(0) += 1;
         if let Some(l) = l {
