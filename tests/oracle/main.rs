@@ -63,6 +63,9 @@ fn random(program: &str, seed: &str, end: &str) {
 }
 
 fn short(program: &str, name: &str) {
+    if name != "all" && exhaustive::LISTS.iter().all(|(each, _)| name != *each) {
+        stop(&format!("no list {name}; there are all{}", exhaustive::LISTS.iter().map(|(each, _)| format!(", {each}")).collect::<String>()));
+    }
     for (each, list) in exhaustive::LISTS {
         if name != "all" && name != *each {
             continue;
