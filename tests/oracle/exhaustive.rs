@@ -12,6 +12,8 @@ pub const LISTS: &[(&str, List)] = &[
     ("bounds", bounds),
     ("encoder-streams", encoder_streams),
     ("decoder-streams", decoder_streams),
+    ("encoder-streams-3", encoder_streams_3),
+    ("decoder-streams-3", decoder_streams_3),
     ("sections", sections),
     ("stateless", stateless),
 ];
@@ -259,21 +261,45 @@ fn calls(p: &mut Pair, longest: usize, mut make: impl FnMut(&[u8], &mut Vec<Comm
     p.batch(waiting)
 }
 
-/// On a copy of each table: all of up to two bytes, and of three bytes on the table with entries in use.
-fn on_each(p: &mut Pair, call: impl Fn(&[u8]) -> Command) -> Result<(), Fault> {
+/// All slices up to a length, each on a copy of a table.
+fn on_copies(p: &mut Pair, from: u64, longest: usize, call: fn(&[u8]) -> Command) -> Result<(), Fault> {
+    calls(p, longest, |s, out| out.extend([Command::new(op::COPY, 0, &[from], &[]), call(s)]))
+}
+
+/// Up to two bytes, on each table.
+fn on_each(p: &mut Pair, call: fn(&[u8]) -> Command) -> Result<(), Fault> {
     tables(p)?;
-    for (from, longest) in [(1, 2), (2, 2), (3, 3)] {
-        calls(p, longest, |s, out| out.extend([Command::new(op::COPY, 0, &[from], &[]), call(s)]))?;
-    }
-    Ok(())
+    (1..=3).try_for_each(|from| on_copies(p, from, 2, call))
+}
+
+/// Up to three bytes, on the table with entries in use; about half an hour.
+fn on_used(p: &mut Pair, call: fn(&[u8]) -> Command) -> Result<(), Fault> {
+    tables(p)?;
+    on_copies(p, 3, 3, call)
+}
+
+fn to_encoder_stream(s: &[u8]) -> Command {
+    Command::new(op::ON_ENCODER_RECV, 0, &[], &[s]).buffer(4, 0xaa)
+}
+
+fn to_decoder_stream(s: &[u8]) -> Command {
+    Command::new(op::ON_DECODER_RECV, 0, &[], &[s])
 }
 
 fn encoder_streams(p: &mut Pair) -> Result<(), Fault> {
-    on_each(p, |s| Command::new(op::ON_ENCODER_RECV, 0, &[], &[s]).buffer(4, 0xaa))
+    on_each(p, to_encoder_stream)
 }
 
 fn decoder_streams(p: &mut Pair) -> Result<(), Fault> {
-    on_each(p, |s| Command::new(op::ON_DECODER_RECV, 0, &[], &[s]))
+    on_each(p, to_decoder_stream)
+}
+
+fn encoder_streams_3(p: &mut Pair) -> Result<(), Fault> {
+    on_used(p, to_encoder_stream)
+}
+
+fn decoder_streams_3(p: &mut Pair) -> Result<(), Fault> {
+    on_used(p, to_decoder_stream)
 }
 
 fn sections(p: &mut Pair) -> Result<(), Fault> {

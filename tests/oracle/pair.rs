@@ -47,9 +47,9 @@ pub fn is_on_table(o: u8) -> bool {
     o <= op::COPY || o == op::SECTION_ON
 }
 
-/// A call after which the whole table is compared; a section takes a table by value and hands none back.
+/// A call after which the whole table is compared. A section takes a table by value and hands none back; a copy is compared with the call after it.
 fn is_shown(o: u8) -> bool {
-    is_on_table(o) && o != op::SECTION_ON
+    is_on_table(o) && o != op::SECTION_ON && o != op::COPY
 }
 
 impl Pair {
@@ -115,6 +115,7 @@ impl Pair {
     /// A call that leaves every table as it is.
     fn alone(&mut self, c: &Command, ours: &str) -> Result<Option<&'static Listed>, String> {
         match c.op {
+            op::COPY => self.copied(c, ours),
             op::SECTION_ON => stream_call(&mut self.tables[c.table as usize], c, ours),
             op::SECTION_STATELESS => streams::section(&mut self.tables[0], c, ours),
             _ => leaves::judge(c, ours),
@@ -160,8 +161,8 @@ impl Pair {
     /// A call on a table: the answers, and then the whole tables.
     fn judge(&mut self, c: &Command, ours: &str, after: &Seen) -> Result<Option<&'static Listed>, String> {
         if c.op == op::COPY {
-            self.tables[c.table as usize] = self.tables[c.numbers[0] as usize].clone();
-            return if ours == "0" { self.tables_equal(c, after, None) } else { Err("0".into()) };
+            self.copied(c, ours)?;
+            return self.tables_equal(c, after, None);
         }
         if c.op == op::SHOW {
             return self.tables_equal(c, after, None);
@@ -178,6 +179,11 @@ impl Pair {
             }
         };
         self.tables_equal(c, after, listed)
+    }
+
+    fn copied(&mut self, c: &Command, ours: &str) -> Result<Option<&'static Listed>, String> {
+        self.tables[c.table as usize] = self.tables[c.numbers[0] as usize].clone();
+        if ours == "0" { Ok(None) } else { Err("0".into()) }
     }
 
     fn tables_equal(&self, c: &Command, after: &Seen, l: Option<&'static Listed>) -> Result<Option<&'static Listed>, String> {
