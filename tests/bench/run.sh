@@ -5,6 +5,7 @@ set -euo pipefail
 cd "$(dirname "$0")/../.."
 fail() { echo "run.sh: $*" >&2; exit 2; }
 [ "$(uname -m)" = x86_64 ] || fail "this machine is $(uname -m); the library is x86-64, so its times mean nothing here"
+[ -f "${1:-../shared/docs}/src/qpack/dynamic.rs" ] || fail "${1:-../shared/docs} holds no src/qpack/dynamic.rs"
 [ -f target/oracle/wraps/libh3.rlib ] || tests/oracle/build.sh "${1:-../shared/docs}" >&2
 [ -f target/staticlib/libembed.a ] || rt staticlib embed >&2 || fail "the archive cannot be made"
 mkdir -p target/bench
