@@ -1,4 +1,5 @@
 //! Short inputs, all of them.
+use crate::leaves::laid_before;
 use crate::pair::{Fault, Pair};
 use crate::random::integer;
 use crate::script::{op, Command};
@@ -76,6 +77,10 @@ fn bytes(p: &mut Pair) -> Result<(), Fault> {
     }
     for index in 0..300 {
         p.step(Command::new(op::STATIC_GET, 0, &[index], &[]))?;
+    }
+    for index in 0..99 {
+        let (start, end) = (laid_before(index) as u64, laid_before(index + 1) as u64);
+        p.step(Command::new(op::STATIC_COPY, 0, &[1, start, end - start], &[]).buffer(150, 0xee))?;
     }
     calls(p, 2, |s, out| {
         for kind in [0, 1, 4, 5, 6] {
