@@ -1,7 +1,7 @@
 //! Short inputs, all of them.
+use crate::inputs::integer;
 use crate::leaves::laid_before;
 use crate::pair::{Fault, Pair};
-use crate::random::integer;
 use crate::script::{op, Command};
 
 type List = fn(&mut Pair) -> Result<(), Fault>;

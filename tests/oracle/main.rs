@@ -2,6 +2,7 @@
 mod calls;
 mod compare;
 mod exhaustive;
+mod inputs;
 mod leaves;
 mod listed;
 mod numbers;
