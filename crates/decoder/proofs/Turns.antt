@@ -6,12 +6,15 @@ use Prim.Native.Nat.{ℕ, zero, suc, _+_, _-_, _≤_, _<_}
 use native.Mathlib.Omega.{arith}
 use lib.ListN.{length, set, length-set}
 use lib.Seq.{sets}
-use Rattle.decoder.specs.Section.{Reader, start, lineOf, bytesAt, outOf, sectionOf, readFrom, readAll}
+use Rattle.answers.specs.Answer.{done, refused}
+use Rattle.answers.specs.declared.Refusal.{Refusal}
+use Rattle.answers.specs.declared.Reply.{Reply}
+use Rattle.decoder.specs.Section.{Reader, start, cursorAt, endedOf, lineOf, bytesAt, outOf, sectionOf, readFrom, readAll}
 use Rattle.section_steps.specs.declared.Cursor.{Cursor}
 use Rattle.section_steps.specs.declared.Field.{Field}
 use Rattle.section_steps.specs.declared.Line.{Line}
 use Rattle.section_steps.proofs.Going.{Goes, line-goes}
-use Rattle.section_steps.proofs.Stepping.{has-started, same-at}
+use Rattle.section_steps.proofs.Stepping.{has-started, stays-past, same-at, same-count, same-used}
 
 -- ---- the steps from a cursor on, by how the first one ends
 
@@ -37,6 +40,17 @@ module _ {R : Type 0} (make : Field → R) (k : Reader) (n : ℕ) (s : List ℕ)
           let h : suc n - 1 ≡ n = omega arith in
           rw (e, d, h)
 
+-- from a cursor whose prefix gives d, as from d
+module _ {R : Type 0} (make : Field → R) (k : Reader) (n : ℕ) (s : List ℕ) (c d : Cursor) (h : cursorAt k s c ≡ done d) where
+  pub read-past : (fs : List R) (out : List ℕ) → readFrom make k (suc n) s d fs out ≡ readFrom make k (suc n) s c fs out
+  unfolding readFrom lineOf bytesAt
+  read-past fs out = rw (stays-past k s c d h d (has-started k s c d h), h, same-count k s c d h, same-used k s c d h)
+
+pub read-unread : {R : Type 0} (make : Field → R) (k : Reader) (n : ℕ) (s : List ℕ) (c : Cursor) (r : Refusal) → cursorAt k s c ≡ refused r
+    → (fs : List R) (out : List ℕ) → sectionOf (endedOf (Reply.Refused r) c .decoded) fs out ≡ readFrom make k (suc n) s c fs out
+unfolding readFrom lineOf
+read-unread make k n s c r e fs out = rw e
+
 -- ---- where the loop stands; ys and zs are the list and the buffer before
 
 pub record Turn {R : Type 0} (make : Field → R) (k : Reader) (s : List ℕ) (ys : List R) (zs : List ℕ) : Type 0 where
@@ -47,7 +61,7 @@ pub record Turn {R : Type 0} (make : Field → R) (k : Reader) (s : List ℕ) (y
   pub many : length fs ≡ length ys
   pub long : length os ≡ length zs
   pub here : c .started ≡ false → c .at ≡ 0
-  pub near : c .at ≤ length s
+  pub some : 0 < fuel
   pub enough : length s < fuel + c .at
   pub same : readFrom make k fuel s c fs os ≡ readAll make k s ys zs
 
@@ -62,9 +76,25 @@ module _ {R : Type 0} (make : Field → R) (k : Reader) (s : List ℕ) (ys : Lis
         many = refl;
         long = refl;
         here = λ e. refl;
-        near = omega arith;
+        some = omega arith;
         enough = omega arith;
         same = refl;
+      }
+
+  -- a cursor past the prefix goes on as the one before it does
+  abbrev pub first-past : (d : Cursor) → cursorAt k s start ≡ done d → Turn make k s ys zs
+  first-past d h =
+      record {
+        c = d;
+        fs = ys;
+        os = zs;
+        fuel = suc (length s);
+        many = refl;
+        long = refl;
+        here = λ e. let on = has-started k s start d h in let z : _≡_ {A = ℕ} 0 1 = cc in absurd (omega arith);
+        some = omega arith;
+        enough = omega arith;
+        same = read-past make k (length s) s start d h ys zs;
       }
 
   module _ (t : Turn make k s ys zs) (l : Line) (os′ : List ℕ) (e : l ≡ lineOf k s (length ys) (length (t .os)) (t .c))
@@ -72,16 +102,13 @@ module _ {R : Type 0} (make : Field → R) (k : Reader) (s : List ℕ) (ys : Lis
     pub line : lineOf k s (length (t .fs)) (length (t .os)) (t .c) ≡ l
     line = rw (t .many) (sym e)
 
-    pub some-fuel : 0 < t .fuel
-    some-fuel = omega (arith, t .enough, t .near)
-
     pub went : l .done ≡ false → Goes k s (length ys) (t .c) l
     went d = rw (← e) at (line-goes k s (length ys) (length (t .os)) (t .c) (rw e at d))
 
     pub ended : l .done ≡ true → sectionOf (l .decoded) (t .fs) os′ ≡ readAll make k s ys zs
     ended d =
         let q : os′ ≡ t .os = e′ ∙ rw d in
-        ap (sectionOf (l .decoded) (t .fs)) q ∙ sym (read-ended make k (t .fuel) s (t .c) (t .fs) (t .os) l line some-fuel d) ∙ t .same
+        ap (sectionOf (l .decoded) (t .fs)) q ∙ sym (read-ended make k (t .fuel) s (t .c) (t .fs) (t .os) l line (t .some) d) ∙ t .same
 
     pub within : l .done ≡ false → t .c .count < length (t .fs)
     within d = omega (arith, went d .more, t .many)
@@ -110,17 +137,17 @@ module _ {R : Type 0} (make : Field → R) (k : Reader) (s : List ℕ) (ys : Lis
           many = simp length-set (t .many);
           long = n ∙ t .long;
           here = λ q. let on = started d in let z : _≡_ {A = ℕ} 0 1 = cc in absurd (omega arith);
-          near = went d .ends .within;
-          enough = omega (arith, t .enough, some-fuel, moves d);
+          some = omega (arith, t .enough, moves d, went d .ends .within);
+          enough = omega (arith, t .enough, t .some, moves d);
           same =
               let q : os′ ≡ sets (t .os) (t .c .used) (bytesAt k s (t .c)) = e′ ∙ rw d in
               ap (readFrom make k (t .fuel - 1) s (l .next) (set (t .fs) (t .c .count) (make (l .field)))) q
-              ∙ sym (read-more make k (t .fuel) s (t .c) (t .fs) (t .os) l line some-fuel d)
+              ∙ sym (read-more make k (t .fuel) s (t .c) (t .fs) (t .os) l line (t .some) d)
               ∙ t .same;
         }
 
     pub next-less : (d : l .done ≡ false) (n : length os′ ≡ length (t .os)) → next d n .fuel < t .fuel
-    next-less d n = omega (arith, some-fuel)
+    next-less d n = omega (arith, t .some)
 
 -- ---- the same by the code's own variables
 
@@ -149,6 +176,9 @@ module _ {R : Type 0} {make : Field → R} {k : Reader} {s : List ℕ} {ys : Lis
     pub stands-moves : (c .at < l .next .at) × (l .next .at ≤ length s)
     stands-moves =
         (rw (← g .is-c) (moves make k s ys zs (g .turn) l os′ at-turn out-turn d), went make k s ys zs (g .turn) l os′ at-turn out-turn d .ends .within)
+
+    pub stands-started : l .next .started ≡ true
+    stands-started = started make k s ys zs (g .turn) l os′ at-turn out-turn d
 
     pub stands-next : length os′ ≡ length os → Stands make k s ys zs room (l .next) (set fs (c .count) (make (l .field))) os′
     stands-next n =

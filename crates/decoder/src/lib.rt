@@ -1,6 +1,9 @@
 // Sections, RFC 9204 4.5: read on a table, or with none, into a lent list of records and a lent buffer.
 ghost use mathlib.Core.Path.{_≡_};
-ghost use Rattle.decoder.specs.Section.{onTable, stateless, sectionOf, readAll, numbers};
+ghost use Rattle.answers.specs.declared.Reply.{Reply};
+ghost use Rattle.decoder.specs.Section.{onTable, stateless, start, endedOf, sectionOf, readAll, numbers};
+use answers::Refusal;
+use answers::Reply;
 use dynamic::Table;
 pub use section_steps::Begun;
 pub use section_steps::Cursor;
@@ -10,8 +13,24 @@ pub use section_steps::Limit;
 pub use section_steps::Line;
 pub use section_steps::MaxSize;
 use section_steps::begin;
+pub use section_steps::begin_on;
+pub use section_steps::line_on;
 pub use section_steps::next_on;
 pub use section_steps::next_stateless;
+use vas::VirtualAddressSpace;
+
+// A section that is refused before its first line.
+fn unread(why: Refusal) -> Decoded
+    ensures { λ r. ⌜ r ≡ endedOf (Reply.Refused why) start .decoded ⌝ }
+{
+    Decoded {
+        reply: Reply::Refused(why),
+        dynamic: false,
+        count: 0,
+        used: 0,
+        size: 0,
+    }
+}
 
 // A section on a table, its records as three numbers each: where a field's bytes start, and how many its name and its value have.
 pub fn read_on(
@@ -23,16 +42,36 @@ pub fn read_on(
 ) -> Decoded
     ensures { λ r. ⌜ sectionOf r (now (fields .exit)) (now (out .exit)) ≡ readAll numbers (onTable table (now (arena .entry))) (now (s .entry)) (now (fields .entry)) (now (out .entry)) ⌝ }
 {
-    let room = fields.len();
-    let mut c = begin();
-    loop {
-        let l = next_on(s, arena, table, room, out, c);
-        if l.done {
-            return l.decoded;
+    let from = begin_on(s, arena, table, begin());
+    match from {
+        Begun::Refused(why) => unread(why),
+        Begun::At(first) => {
+            let room = fields.len();
+            let live = VirtualAddressSpace {
+                inserted: table.ring.inserted,
+                dropped: table.ring.dropped,
+            };
+            let mut c = first;
+            loop {
+                let l = line_on(
+                    s,
+                    arena,
+                    &table.ring.starts,
+                    &table.ring.names,
+                    &table.ring.values,
+                    live,
+                    room,
+                    out,
+                    c,
+                );
+                if l.done {
+                    return l.decoded;
+                }
+                let i = c.count;
+                fields[i] = [l.field.start, l.field.name, l.field.value];
+                c = l.next;
+            }
         }
-        let i = c.count;
-        fields[i] = [l.field.start, l.field.name, l.field.value];
-        c = l.next;
     }
 }
 

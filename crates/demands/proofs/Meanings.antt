@@ -26,6 +26,9 @@ use Rattle.int_writing.specs.declared.IntSize.{IntSize}
 use Rattle.prefix_string.specs.Text as text
 use Rattle.prefix_string.specs.declared.TextRead.{TextRead}
 use Rattle.running.specs.Run.{Whole}
+use Rattle.section_steps.specs.Section as section
+use Rattle.section_steps.specs.declared.Begun.{Begun}
+use Rattle.section_steps.specs.declared.Cursor.{Cursor}
 use Rattle.shapes.specs.Shapes as shapes
 use Rattle.shapes.specs.declared.IntTextRead.{IntTextRead}
 use Rattle.shapes.specs.declared.TextsRead.{TextsRead}
@@ -182,6 +185,17 @@ one-located = settled vas.located back way
     way (Located.Refused w) = refl
 
 -- ---- single instructions, lines and prefixes
+
+pub one-begun : (r r′ : Begun) {x : Answer Cursor} → section.begunBy r ≡ x → section.begunBy r′ ≡ x → r ≡ r′
+one-begun = settled section.begunBy back way
+  where
+    back : Answer Cursor → Begun
+    back (done c) = Begun.At c
+    back (refused w) = Begun.Refused w
+
+    way : (r : Begun) → back (section.begunBy r) ≡ r
+    way (Begun.At c) = refl
+    way (Begun.Refused w) = refl
 
 pub one-integer : (r r′ : IntegerRead) {x : Answer (Option stream.OneInteger)} → stream.integerRead r ≡ x → stream.integerRead r′ ≡ x → r ≡ r′
 one-integer = settled stream.integerRead back way

@@ -11,7 +11,8 @@
 -- | on_encoder_recv | Receives (encoder_stream) | one-encoder-call |
 -- | on_decoder_recv | Receives (decoder_stream) | one-decoder-call |
 -- | decode_header, decode_stateless, read_on, read_stateless (decoder) | sectionOf r fields out ≡ readAll .. | one-section |
--- | next_on, next_stateless (decoder) | r ≡ lineOf .., out ≡ outOf .. | one-step |
+-- | next_on, next_stateless, line_on (section_steps) | r ≡ lineOf .. or lineIn .., out ≡ outOf .. or outIn .. | one-step |
+-- | begin_on (section_steps) | begunBy r ≡ .. | one-begun (Meanings) |
 -- | every writer: prefix_int, prefix_string, shapes, stream, block; static_table::copy, arena::copy | Writes | one-write |
 -- | Ring: push | Pushes | one-push |
 -- | prefix_int: read, size; prefix_string: read, size | intRead, textRead, intSize r ≡ .. | one-int, one-text, one-size (Meanings) |
@@ -26,7 +27,7 @@
 -- | dynamic: capacity_test | tested r ≡ .. | one-capacity-test (Meanings) |
 -- | entries: fewest | r ≡ .., for every array of starts | one-room |
 -- | arena: write, move_bytes | the arena after ≡ .. | one-exact |
--- | Table: fresh, checked; dynamic: push_reply; Ring: sound, room, cut; all of tracking and forms; answers: number, ends_early; prefix_int: call_ok; VirtualAddressSpace: largest_ref; arena: is_at; entries: check | r ≡ .. | one-exact |
+-- | section_steps: begin; Table: fresh, checked; dynamic: push_reply; Ring: sound, room, cut; all of tracking and forms; answers: number, ends_early; prefix_int: call_ok; VirtualAddressSpace: largest_ref; arena: is_at; entries: check | r ≡ .. | one-exact |
 -- | instructions: read_instruction | instructionRead s r ≡ .. | one-instruction: see there |
 -- | field_lines: read_on, read_static | fieldRead s a r ≡ .., for every arena | one-field: see there |
 -- | field_lines: entry_on, entry_static, static_entry | entryRead a r ≡ .., for every arena | one-entry: see there |
@@ -40,7 +41,6 @@ use Rattle.answers.specs.Table.{Done}
 use Rattle.answers.specs.Write.{Writes}
 use Rattle.answers.specs.declared.Written.{Written}
 use Rattle.decoder.specs.Section as section
-use Rattle.section_steps.specs.declared.Cursor.{Cursor}
 use Rattle.section_steps.specs.declared.Decoded.{Decoded}
 use Rattle.section_steps.specs.declared.Line.{Line}
 use Rattle.decoder_stream.specs.Reports as reports
@@ -129,11 +129,12 @@ one-section {R} r r′ fs fs′ m m′ w w′ =
     )
 
 -- one line at a time: what is told, the next cursor, the field, and the buffer
-pub one-step : (k : section.Reader) (s o : List ℕ) (c : Cursor) {x : Line} (r r′ : Line) (m m′ : List ℕ)
-    → (r ≡ x) × (m ≡ section.outOf k s c o r) → (r′ ≡ x) × (m′ ≡ section.outOf k s c o r′) → (r ≡ r′) × (m ≡ m′)
-one-step k s o c r r′ m m′ w w′ =
+-- after: the buffer after a step, by its line
+pub one-step : (after : Line → List ℕ) {x : Line} (r r′ : Line) (m m′ : List ℕ)
+    → (r ≡ x) × (m ≡ after r) → (r′ ≡ x) × (m′ ≡ after r′) → (r ≡ r′) × (m ≡ m′)
+one-step after r r′ m m′ w w′ =
     let same : r ≡ r′ = one-exact (w .0) (w′ .0) in
-    (same, w .1 ∙ ap (section.outOf k s c o) same ∙ sym (w′ .1))
+    (same, w .1 ∙ ap after same ∙ sym (w′ .1))
 
 -- ---- writers
 

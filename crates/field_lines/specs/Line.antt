@@ -31,6 +31,7 @@ pub use Rattle.line_entries.specs.Entry.{
   TextInside,
   entryRead,
   EntryInside,
+  liveIn,
   liveOf,
   PositionLive,
   NotStored,

@@ -7,16 +7,17 @@ ghost use Rattle.answers.specs.Answer.{done, andThen};
 ghost use Rattle.instructions.specs.Instruction.{stretch};
 ghost use Rattle.field_lines.specs.declared.FieldRead.{FieldRead};
 ghost use Rattle.line_entries.specs.declared.Text.{Text};
-ghost use Rattle.field_lines.specs.Line.{lineOn, lineStatic, isPostBase, fieldRead, FieldInside, entryRead, EntryInside, EntryFixed, FieldFixed, liveOf};
+ghost use Rattle.field_lines.specs.Line.{lineOn, lineStatic, isPostBase, fieldRead, FieldInside, entryRead, EntryInside, EntryFixed, FieldFixed, liveIn};
 use answers::Refusal;
 use block::LineRead;
+use entries::SLOTS;
 use forms::HeaderBlockField;
 pub use line_entries::EntryRead;
 pub use line_entries::Text;
 pub use line_entries::entry_on;
 pub use line_entries::entry_static;
 pub use line_entries::static_entry;
-use ring::Ring;
+use vas::VirtualAddressSpace;
 
 // A line's name and value, and the position past the line.
 pub enum FieldRead {
@@ -81,15 +82,23 @@ fn literal_field(
     }
 }
 
-// The field of the line at a position, on a table and with a base.
-pub fn read_on(ring: Ring, base: usize, s: &[u8], at: usize) -> FieldRead
-    ensures { λ r. ⌜ ((a : List ℕ) → fieldRead (now (s .entry)) a r ≡ lineOn (liveOf ring a) base (now (s .entry)) at) ⌝ }
+// The field of the line at a position, on the three arrays of a ring, with what is live of it and a base.
+pub fn read_on<'a>(
+    starts: &'a [u16; SLOTS],
+    names: &'a [u16; SLOTS],
+    values: &'a [u16; SLOTS],
+    live: VirtualAddressSpace,
+    base: usize,
+    s: &[u8],
+    at: usize,
+) -> FieldRead
+    ensures { λ r. ⌜ ((a : List ℕ) → fieldRead (now (s .entry)) a r ≡ lineOn (liveIn (now (starts .entry)) (now (names .entry)) (now (values .entry)) live a) base (now (s .entry)) at) ⌝ }
     ensures { λ r. ⌜ FieldInside (now (s .entry)) at r ⌝ }
 {
     let line = block::read_line(s, at);
     match line {
         LineRead::Indexed { field, next } => {
-            let entry = entry_on(ring, base, field);
+            let entry = entry_on(starts, names, values, live, base, field);
             indexed_field(entry, next)
         }
         LineRead::Named {
@@ -98,7 +107,7 @@ pub fn read_on(ring: Ring, base: usize, s: &[u8], at: usize) -> FieldRead
             value_len,
             next,
         } => {
-            let entry = entry_on(ring, base, name);
+            let entry = entry_on(starts, names, values, live, base, name);
             named_field(entry, value, value_len, next)
         }
         LineRead::Literal {

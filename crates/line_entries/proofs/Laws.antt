@@ -11,18 +11,17 @@ use Rattle.answers.specs.Answer.{done, refused}
 use Rattle.answers.specs.declared.Refusal.{Refusal}
 use Rattle.answers.specs.declared.Refusal.the-variants.{InvalidStaticIndex}
 use Rattle.arena.specs.Ring.{ringRead}
-use Rattle.entries.specs.Entry.{slots, noEntry, slotOf, fieldOf}
+use Rattle.entries.specs.Entry.{slots, noEntry, slotOf, between, fieldOf}
 use Rattle.entries.proofs.Between.{between-at}
 use Rattle.instructions.specs.Instruction.{stretch}
-use Rattle.ring.specs.Ring.{live, fieldsOf}
-use Rattle.ring.specs.declared.Ring.{Ring}
 use Rattle.static_table.specs.AppendixA.{appendixA}
 use Rattle.static_table.specs.Static.{noField, laid, Place, placeOf, entryAt}
 use Rattle.static_table.proofs.Table.{entries, entry-placed}
 use Rattle.vas.specs.Vas.{located}
 use Rattle.vas.specs.declared.Located.{Located}
 use Rattle.vas.specs.declared.Located.the-variants.{At}
-use Rattle.line_entries.specs.Entry.{staticField, liveAt, liveOf, PositionLive}
+use Rattle.vas.specs.declared.VirtualAddressSpace.{VirtualAddressSpace}
+use Rattle.line_entries.specs.Entry.{staticField, liveAt, liveIn, PositionLive}
 
 -- ---- the static table
 
@@ -46,18 +45,19 @@ static-refused i r h = go (ltb i (length appendixA)) h
 
 -- ---- the live entries
 
-live-field : (r : Ring) (a : List ℕ) (k : ℕ) → k < r .inserted - r .dropped
-    → getD (fieldsOf r a) k noField ≡ fieldOf a (slotOf (r .starts) (r .names) (r .values) ((r .dropped + k) % slots))
-live-field r a k h =
-    List·getD-map (fieldOf a) (live r) k noEntry
-    ∙ ap (fieldOf a) (between-at (r .starts) (r .names) (r .values) (r .dropped) (r .inserted) k h)
+module _ (starts names values : List ℕ) (v : VirtualAddressSpace) (a : List ℕ) where
+  live-field : (k : ℕ) → k < v .inserted - v .dropped
+      → getD (liveIn starts names values v a .fields) k noField ≡ fieldOf a (slotOf starts names values ((v .dropped + k) % slots))
+  live-field k h =
+      List·getD-map (fieldOf a) (between starts names values (v .dropped) (v .inserted)) k noEntry
+      ∙ ap (fieldOf a) (between-at starts names values (v .dropped) (v .inserted) k h)
 
-pub live-done : (r : Ring) (a : List ℕ) (l : Located) (k x y z : ℕ) → l ≡ At k → PositionLive (r .inserted - r .dropped) l
-    → x ≡ getD (r .starts) ((r .dropped + k) % slots) 0 → y ≡ getD (r .names) ((r .dropped + k) % slots) 0 → z ≡ getD (r .values) ((r .dropped + k) % slots) 0
-    → done (record { name = ringRead a x y; value = ringRead a (x + y) z }) ≡ liveAt (liveOf r a) (located l)
-live-done r a l k x y z is h ex ey ez =
-    let low : k < r .inserted - r .dropped = rw is at h in
-    rw (is, live-field r a k low, ex, ey, ez)
+  pub live-done : (l : Located) (k x y z : ℕ) → l ≡ At k → PositionLive (v .inserted - v .dropped) l
+      → x ≡ getD starts ((v .dropped + k) % slots) 0 → y ≡ getD names ((v .dropped + k) % slots) 0 → z ≡ getD values ((v .dropped + k) % slots) 0
+      → done (record { name = ringRead a x y; value = ringRead a (x + y) z }) ≡ liveAt (liveIn starts names values v a) (located l)
+  live-done l k x y z is h ex ey ez =
+      let low : k < v .inserted - v .dropped = rw is at h in
+      rw (is, live-field k low, ex, ey, ez)
 
 pub position-live : (m : ℕ) (l : Located) → ((p : ℕ) → located l ≡ done p → p < m) → PositionLive m l
 position-live m (At p) h = h p refl

@@ -1,12 +1,13 @@
 -- The entry that a reference of a line names, RFC 9204 3.2.5, 3.2.6: on a table, and with no table.
 use mathlib.Core.Bool.{cond}
-use mathlib.Core.List.{List, []}
+use mathlib.Core.List.{List, [], map}
 use Prim.Native.Nat.{ℕ, _+_, _≤_, _<_}
 use lib.Dec.{ltb}
 use lib.ListN.{length, getD}
 use Rattle.answers.specs.Answer.{Answer, done, refused, andThen}
 use Rattle.answers.specs.declared.Refusal.the-variants.{InvalidStaticIndex, MissingRefs}
 use Rattle.arena.specs.Ring.{ringRead}
+use Rattle.entries.specs.Entry.{between, fieldOf}
 use Rattle.field.specs.Field.{Field}
 use Rattle.instructions.specs.Instruction.{stretch}
 use Rattle.line_writing.specs.declared.Reference.{Reference}
@@ -18,6 +19,7 @@ use Rattle.static_table.specs.Static.{noField, laid}
 use Rattle.vas.specs.Vas.{baseRelativeAt, postBaseAt}
 use Rattle.vas.specs.declared.Located.{Located}
 use Rattle.vas.specs.declared.Located.the-variants.{At}
+use Rattle.vas.specs.declared.VirtualAddressSpace.{VirtualAddressSpace}
 use Rattle.line_entries.specs.declared.EntryRead.{EntryRead}
 use Rattle.line_entries.specs.declared.Text.{Text}
 
@@ -69,7 +71,16 @@ abbrev pub EntryInside : EntryRead → Type 0
 EntryInside (EntryRead.Entry n v) = TextInside 0 n × TextInside 0 v
 EntryInside (EntryRead.Refused r) = Unit {0}
 
--- the entries of a ring, with their strings in the arena
+-- the entries that are live, by where each one's bytes start and how many its name and its value have, with their strings in the arena
+abbrev pub liveIn : List ℕ → List ℕ → List ℕ → VirtualAddressSpace → List ℕ → Live
+liveIn starts names values v a =
+    record {
+      fields = map (fieldOf a) (between starts names values (v .dropped) (v .inserted));
+      inserted = v .inserted;
+      dropped = v .dropped;
+    }
+
+-- the entries of a ring
 abbrev pub liveOf : Ring → List ℕ → Live
 liveOf r a = record { fields = fieldsOf r a; inserted = r .inserted; dropped = r .dropped }
 

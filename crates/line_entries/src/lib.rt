@@ -3,11 +3,10 @@ ghost use mathlib.Core.Path.{_≡_};
 ghost use mathlib.Core.List.{List};
 ghost use Prim.Native.Nat.{ℕ, _-_, _^_, _<_};
 ghost use Rattle.vas.specs.Vas.{located};
-ghost use Rattle.line_entries.specs.Entry.{liveAt, PositionLive, entryOn, entryStatic, entryRead, EntryInside, EntryFixed, staticField, liveOf};
+ghost use Rattle.line_entries.specs.Entry.{liveAt, PositionLive, entryOn, entryStatic, entryRead, EntryInside, EntryFixed, staticField, liveIn};
 use answers::Refusal;
 use entries::SLOTS;
 use line_writing::Reference;
-use ring::Ring;
 use static_table::StaticGot;
 use vas::Located;
 use vas::VirtualAddressSpace;
@@ -51,18 +50,24 @@ pub fn static_entry(index: u64) -> EntryRead
     }
 }
 
-// The live entry at a position.
-fn live_entry(ring: Ring, at: Located) -> EntryRead
-    requires { ⌜ PositionLive (ring .inserted - ring .dropped) at ⌝ }
-    ensures { λ r. ⌜ ((a : List ℕ) → entryRead a r ≡ liveAt (liveOf ring a) (located at)) ⌝ }
+// The live entry at a position, by the three arrays of its ring.
+fn live_entry<'a>(
+    starts: &'a [u16; SLOTS],
+    names: &'a [u16; SLOTS],
+    values: &'a [u16; SLOTS],
+    live: VirtualAddressSpace,
+    at: Located,
+) -> EntryRead
+    requires { ⌜ PositionLive (live .inserted - live .dropped) at ⌝ }
+    ensures { λ r. ⌜ ((a : List ℕ) → entryRead a r ≡ liveAt (liveIn (now (starts .entry)) (now (names .entry)) (now (values .entry)) live a) (located at)) ⌝ }
     ensures { λ r. ⌜ EntryInside r ⌝ }
 {
     match at {
         Located::At(position) => {
-            let i = (ring.dropped + position) % SLOTS;
-            let start = wide(ring.starts[i]);
-            let name = wide(ring.names[i]);
-            let value = wide(ring.values[i]);
+            let i = (live.dropped + position) % SLOTS;
+            let start = wide(starts[i]);
+            let name = wide(names[i]);
+            let value = wide(values[i]);
             EntryRead::Entry {
                 name: Text::Stored { start, len: name },
                 value: Text::Stored {
@@ -75,24 +80,27 @@ fn live_entry(ring: Ring, at: Located) -> EntryRead
     }
 }
 
-// The entry that a reference names, on a table and with a base.
-pub fn entry_on(ring: Ring, base: usize, entry: Reference) -> EntryRead
-    ensures { λ r. ⌜ ((a : List ℕ) → entryRead a r ≡ entryOn (liveOf ring a) base entry) ⌝ }
+// The entry that a reference names, on the three arrays of a ring, with what is live of it and a base.
+pub fn entry_on<'a>(
+    starts: &'a [u16; SLOTS],
+    names: &'a [u16; SLOTS],
+    values: &'a [u16; SLOTS],
+    live: VirtualAddressSpace,
+    base: usize,
+    entry: Reference,
+) -> EntryRead
+    ensures { λ r. ⌜ ((a : List ℕ) → entryRead a r ≡ entryOn (liveIn (now (starts .entry)) (now (names .entry)) (now (values .entry)) live a) base entry) ⌝ }
     ensures { λ r. ⌜ EntryInside r ⌝ }
 {
-    let live = VirtualAddressSpace {
-        inserted: ring.inserted,
-        dropped: ring.dropped,
-    };
     match entry {
         Reference::Static(i) => static_entry(i),
         Reference::Relative(i) => {
             let at = live.relative_base(base, i as usize);
-            live_entry(ring, at)
+            live_entry(starts, names, values, live, at)
         }
         Reference::PostBase(i) => {
             let at = live.post_base(base, i as usize);
-            live_entry(ring, at)
+            live_entry(starts, names, values, live, at)
         }
     }
 }

@@ -6,6 +6,7 @@ use ring::Ring;
 use script::answer;
 use script::answer::Answer;
 use script_leaves::kinds;
+use vas::VirtualAddressSpace;
 
 // Where a string stands: the word for it, its start and its length.
 struct Stands {
@@ -59,8 +60,20 @@ fn entry(r: EntryRead) -> Answer {
     }
 }
 
+fn live_of(inserted: usize, dropped: usize) -> VirtualAddressSpace {
+    VirtualAddressSpace { inserted, dropped }
+}
+
 pub fn line_on(ring: Ring, base: usize, s: &[u8], at: usize) -> Answer {
-    field(field_lines::read_on(ring, base, s, at))
+    field(field_lines::read_on(
+        &ring.starts,
+        &ring.names,
+        &ring.values,
+        live_of(ring.inserted, ring.dropped),
+        base,
+        s,
+        at,
+    ))
 }
 
 pub fn line_static(s: &[u8], at: usize) -> Answer {
@@ -73,7 +86,14 @@ pub fn static_entry(index: u64) -> Answer {
 
 pub fn entry_on(ring: Ring, base: usize, reference: u64, index: u64) -> Answer {
     let r = kinds::reference_of(reference, index);
-    entry(field_lines::entry_on(ring, base, r))
+    entry(field_lines::entry_on(
+        &ring.starts,
+        &ring.names,
+        &ring.values,
+        live_of(ring.inserted, ring.dropped),
+        base,
+        r,
+    ))
 }
 
 pub fn entry_static(reference: u64, index: u64) -> Answer {

@@ -78,6 +78,12 @@ same-count k s c d h = past-prefix k s c d h (λ x. x .count ≡ c .count) (λ e
 pub has-started : (k : Reader) (s : List ℕ) (c d : Cursor) → cursorAt k s c ≡ done d → d .started ≡ true
 has-started k s c d h = past-prefix k s c d h (λ x. x .started ≡ true) (λ e. e) (λ e p q. refl)
 
+-- past the prefix, a cursor that has started stands for itself
+pub stays-past : (k : Reader) (s : List ℕ) (c d : Cursor) → cursorAt k s c ≡ done d → (e : Cursor) → e .started ≡ true → cursorAt k s e ≡ done e
+unfolding cursorAt
+stays-past (onTable t a) s c d h e on = rw (on, long-there t a s c d h)
+stays-past (stateless most) s c d h e on = rw on
+
 pub same-at : (k : Reader) (s : List ℕ) (c d : Cursor) → cursorAt k s c ≡ done d → c .started ≡ true → d .at ≡ c .at
 same-at k s c d h on =
     past-prefix k s c d h (λ x. x .at ≡ c .at) (λ e. refl) (λ e p q. let z : _≡_ {A = ℕ} 0 1 = cc in absurd (omega arith))

@@ -15,7 +15,7 @@ use Rattle.arena.specs.Ring.{longEnough}
 use Rattle.dynamic.specs.Record.{usable}
 use Rattle.dynamic.specs.declared.Table.{Table}
 use Rattle.field.specs.Field as model
-use Rattle.field_lines.specs.Line.{Read, lineOn, lineStatic, liveOf, TextInside}
+use Rattle.field_lines.specs.Line.{Read, Live, lineOn, lineStatic, liveOf, TextInside}
 use Rattle.field_lines.specs.declared.FieldRead.{FieldRead}
 use Rattle.line_entries.specs.declared.Text.{Text}
 use Rattle.header_prefix.specs.Prefix.{Prefix, prefixAt}
@@ -134,10 +134,12 @@ abbrev pub fieldStep : Option ℕ → ℕ → ℕ → Cursor → Answer Read →
 fieldStep most room cap c (refused r) = endedOf (Reply.Refused r) c
 fieldStep most room cap c (done f) = placedOf most room cap c (length (f .field .name)) (length (f .field .value)) (f .next)
 
--- at the end of the section it is done
+-- at the end of the section it is done; before it, what the line at the cursor gives
+abbrev pub stepBy : Option ℕ → Answer Read → List ℕ → ℕ → ℕ → Cursor → Line
+stepBy most line s room cap c = cond (leb (length s) (c .at)) (endedOf Reply.Done c) (fieldStep most room cap c line)
+
 abbrev pub stepOf : Reader → List ℕ → ℕ → ℕ → Cursor → Line
-stepOf k s room cap c =
-    cond (leb (length s) (c .at)) (endedOf Reply.Done c) (fieldStep (mostOf k) room cap c (lineWith k (c .base) s (c .at)))
+stepOf k s room cap c = stepBy (mostOf k) (lineWith k (c .base) s (c .at)) s room cap c
 
 abbrev pub lineFrom : Reader → List ℕ → ℕ → ℕ → Cursor → Answer Cursor → Line
 lineFrom k s room cap c (refused r) = endedOf (Reply.Refused r) c
@@ -161,6 +163,16 @@ storedBy c out l bytes = cond (l .done) out (sets out (c .used) bytes)
 
 abbrev pub outOf : Reader → List ℕ → Cursor → List ℕ → Line → List ℕ
 outOf k s c out l = storedBy c out l (bytesAt k s c)
+
+-- ---- a line past the prefix, on what is live of a table
+
+-- "22: short arena", at every step
+abbrev pub lineIn : Live → List ℕ → List ℕ → ℕ → ℕ → Cursor → Line
+lineIn v a s room cap c =
+    cond (longEnough a) (stepBy none (lineOn v (c .base) s (c .at)) s room cap c) (endedOf (Reply.Refused BadCall) c)
+
+abbrev pub outIn : Live → List ℕ → Cursor → List ℕ → Line → List ℕ
+outIn v s c out l = storedBy c out l (bytesOf (lineOn v (c .base) s (c .at)))
 
 -- ---- what the code holds
 

@@ -6,7 +6,7 @@ ghost use lib.ListN.{length};
 ghost use lib.Seq.{sets};
 ghost use Rattle.answers.specs.Answer.{done, andThen};
 ghost use Rattle.field.specs.Field.{overhead};
-ghost use Rattle.field_lines.specs.Line.{textIn, TextInside, fieldRead};
+ghost use Rattle.field_lines.specs.Line.{textIn, TextInside, fieldRead, liveIn};
 ghost use Rattle.header_prefix.specs.Prefix.{prefixRead};
 ghost use Rattle.instructions.specs.Instruction.{stretch};
 ghost use Rattle.section_steps.specs.Section.{
@@ -24,6 +24,8 @@ ghost use Rattle.section_steps.specs.Section.{
   fieldStep,
   bytesOf,
   storedBy,
+  lineIn,
+  outIn,
   lineOf,
   outOf,
   lengthOf,
@@ -34,10 +36,12 @@ use answers::Refusal;
 use answers::Reply;
 use arena::RING;
 use dynamic::Table;
+use entries::SLOTS;
 use field::ESTIMATED_OVERHEAD_BYTES;
 use field_lines::FieldRead;
 use field_lines::Text;
 use header_prefix::PrefixRead;
+use vas::VirtualAddressSpace;
 
 // One decoded field: where its bytes start in the buffer, and how many its name and its value have.
 pub struct Field {
@@ -305,7 +309,7 @@ fn past_prefix(c: Cursor, prefix: PrefixRead) -> Begun
 }
 
 // Where the next line of a section on a table stands; the record is tested once, before the prefix.
-fn begin_on(s: &[u8], arena: &[u8], table: Table, c: Cursor) -> Begun
+pub fn begin_on(s: &[u8], arena: &[u8], table: Table, c: Cursor) -> Begun
     ensures { λ r. ⌜ begunBy r ≡ cursorAt (onTable table (now (arena .entry))) (now (s .entry)) c ⌝ }
 {
     if arena.len() < RING {
@@ -325,6 +329,31 @@ fn begin_on(s: &[u8], arena: &[u8], table: Table, c: Cursor) -> Begun
     past_prefix(c, prefix)
 }
 
+// The next line of a section on the three arrays of a ring, with what is live of it.
+pub fn line_on<'a>(
+    s: &[u8],
+    arena: &[u8],
+    starts: &'a [u16; SLOTS],
+    names: &'a [u16; SLOTS],
+    values: &'a [u16; SLOTS],
+    live: VirtualAddressSpace,
+    room: usize,
+    out: &mut [u8],
+    c: Cursor,
+) -> Line
+    ensures { λ r. ⌜ (r ≡ lineIn (liveIn (now (starts .entry)) (now (names .entry)) (now (values .entry)) live (now (arena .entry))) (now (arena .entry)) (now (s .entry)) room (length (now (out .entry))) c)
+        × (now (out .exit) ≡ outIn (liveIn (now (starts .entry)) (now (names .entry)) (now (values .entry)) live (now (arena .entry))) (now (s .entry)) c (now (out .entry)) r) ⌝ }
+{
+    if arena.len() < RING {
+        return ended(Reply::Refused(Refusal::BadCall), c);
+    }
+    if s.len() <= c.at {
+        return ended(Reply::Done, c);
+    }
+    let line = field_lines::read_on(starts, names, values, live, c.base, s, c.at);
+    place(s, arena, line, Limit::None, room, out, c)
+}
+
 // One step of a section on a table.
 pub fn next_on(s: &[u8], arena: &[u8], table: Table, room: usize, out: &mut [u8], c: Cursor) -> Line
     ensures { λ r. ⌜ (r ≡ lineOf (onTable table (now (arena .entry))) (now (s .entry)) room (length (now (out .entry))) c)
@@ -334,11 +363,21 @@ pub fn next_on(s: &[u8], arena: &[u8], table: Table, room: usize, out: &mut [u8]
     match from {
         Begun::Refused(why) => ended(Reply::Refused(why), c),
         Begun::At(d) => {
-            if s.len() <= d.at {
-                return ended(Reply::Done, d);
-            }
-            let line = field_lines::read_on(table.ring, d.base, s, d.at);
-            place(s, arena, line, Limit::None, room, out, d)
+            let live = VirtualAddressSpace {
+                inserted: table.ring.inserted,
+                dropped: table.ring.dropped,
+            };
+            line_on(
+                s,
+                arena,
+                &table.ring.starts,
+                &table.ring.names,
+                &table.ring.values,
+                live,
+                room,
+                out,
+                d,
+            )
         }
     }
 }

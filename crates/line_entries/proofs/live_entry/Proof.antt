@@ -1,6 +1,7 @@
 -- `line_entries::live_entry`: where the strings of the entry at a position stand in the arena. Assumes nothing.
 use Prim.Native.Nat.{_-_, _<_}
 use native.Mathlib.Omega.{arith}
+use denote.Ref.{now}
 use Rattle.line_entries.proofs.Laws.{live-done}
 use borrow.Author.Needs.{needs}
 use Rattle.line_entries.proofs.live_entry.Statement.{statement}
@@ -11,8 +12,8 @@ enum-known-at c = search needs
 
 add-i : tie.Need-add-i
 add-i c =
-    let z = c .before .before .before in
-    let low : c .before .at .given .0 .0 < z .args .t1 .inserted - z .args .t1 .dropped = rw (c .before .at .given .1) at (z .pre) in
+    let z = c .before .before .before .before in
+    let low : c .before .before .at .given .0 .0 < z .args .live .inserted - z .args .live .dropped = rw (c .before .before .at .given .1) at (z .pre) in
     omega (arith, low)
 
 mul-wide : tie.Need-mul-wide
@@ -42,17 +43,17 @@ element-copy-out-wide-3 c = search needs
 wide-requires-3 : tie.Need-wide-requires-3
 wide-requires-3 c κs = search needs
 
-add-t12 : tie.Need-add-t12
-add-t12 c = omega arith
+add-t13 : tie.Need-add-t13
+add-t13 c = omega arith
 
 enum-known-at-2 : tie.Need-enum-known-at-2
 enum-known-at-2 c = search needs
 
 returns : tie.Need-returns
 returns c =
-    let told = c .before .before .before .before .before .before .before in
+    let told = c .before .before .before .before .before .before .before .before in
     let z = told .before .before in (
-      λ a. live-done (z .args .t1) a (z .args .at) _ _ _ _ (told .at .given .1) (z .pre) (c .before .before .before .before .wide .ensures .0) (c .before .before .wide2 .ensures .0) (c .wide3 .ensures .0),
+      λ a. live-done (now (z .args .starts)) (now (z .args .names)) (now (z .args .values)) (z .args .live) a (z .args .at) _ _ _ _ (told .at .given .1) (z .pre) (c .before .before .before .before .wide .ensures .0) (c .before .before .wide2 .ensures .0) (c .wide3 .ensures .0),
       (tt, tt),
     )
 
@@ -74,7 +75,7 @@ live-entry-spec =
     mul-wide-3
     element-copy-out-wide-3
     wide-requires-3
-    add-t12
+    add-t13
     enum-known-at-2
     returns
     returns-2)

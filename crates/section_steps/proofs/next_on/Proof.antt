@@ -1,22 +1,16 @@
--- `section_steps::next_on`: why there is no line, the end, or the field of the line. Assumes nothing.
-use mathlib.Core.Path.{_≡_, sym, ap, _∙_}
-use lib.ListN.{length}
+-- `section_steps::next_on`: why there is no line, or what the line at the cursor gives. Assumes nothing.
+use mathlib.Core.Path.{sym, ap, _∙_}
 use denote.Ref.{now}
-use Rattle.answers.specs.Answer.{done}
-use Rattle.section_steps.specs.Section.{onTable, begunBy, cursorAt}
-use Rattle.section_steps.proofs.Lines.{line-on}
-use Rattle.section_steps.proofs.Stepping.{long-there, ready-on, next-refused, next-ended, next-placed}
+use Rattle.section_steps.specs.Section.{onTable, begunBy}
+use Rattle.section_steps.proofs.Lines.{next-in}
+use Rattle.section_steps.proofs.Stepping.{next-refused}
 use borrow.Author.Needs.{needs}
 use Rattle.section_steps.proofs.next_on.Statement.{statement}
 use Rattle.section_steps.proofs.next_on.Tie as tie
 
--- the call's start, and the cursor past the prefix
+-- the call's start
 abbrev entry : tie.After-begin-on → tie.Start
 entry c = c .before .before .before .before
-
-stands : (c : tie.After-known-told2) → cursorAt (onTable (entry (c .before .before .before) .args .table) (now (entry (c .before .before .before) .args .arena)))
-    (now (entry (c .before .before .before) .args .s)) (entry (c .before .before .before) .args .c) ≡ done (c .before .from2 .given .0 .0)
-stands c = sym (c .before .before .before .begin-on .ensures) ∙ ap begunBy (c .before .from2 .given .1)
 
 begin-on-requires : tie.Need-begin-on-requires
 begin-on-requires c κs = search needs
@@ -30,45 +24,26 @@ ended-requires c κs = search needs
 enum-known-from-2 : tie.Need-enum-known-from-2
 enum-known-from-2 c = search needs
 
-ended-requires-2 : tie.Need-ended-requires-2
-ended-requires-2 c κs = search needs
+line-on-requires : tie.Need-line-on-requires
+line-on-requires c κs = search needs
 
 returns : tie.Need-returns
 returns c =
-    let then = c .before in
-    let told = then .before .before in
-    let a = entry (told .before .before .before) .args in
-    let n = next-ended (onTable (a .table) (now (a .arena))) (now (a .s)) (now (a .out)) (a .room) (a .c) _ _ (stands told) (then .if1 .taken) (c .ended2 .ensures) in
-    (n .answer, n .bytes)
-
-read-on-requires : tie.Need-read-on-requires
-read-on-requires c κs = search needs
-
-place-requires : tie.Need-place-requires
-place-requires c κs =
-    let read = c .before in
-    let told = read .before .before .before in
-    let a = entry (told .before .before .before) .args in
-    ready-on (now (a .s)) (now (a .arena)) _ (read .read-on .result) (long-there (a .table) (now (a .arena)) (now (a .s)) (a .c) _ (stands told)) (read .read-on .ensures .1)
-
-returns-2 : tie.Need-returns-2
-returns-2 c =
     let from = c .before .before .before .before in
     let a = entry from .args in
-    let n = next-refused (onTable (a .table) (now (a .arena))) (now (a .s)) (now (a .out)) (a .room) (a .c) _ _ (sym (from .begin-on .ensures) ∙ ap begunBy (c .before .before .from .given .1)) (c .ended .ensures) in
+    let n = next-refused (onTable (a .t3) (now (a .arena))) (now (a .s)) (now (a .out)) (a .room) (a .c) _ _ (sym (from .begin-on .ensures) ∙ ap begunBy (c .before .before .from .given .1)) (c .ended .ensures) in
     (n .answer, n .bytes)
 
 same-length : tie.Need-same-length
 same-length c = search needs
 
-returns-3 : tie.Need-returns-3
-returns-3 c =
-    let place = c .before .before in
-    let read = place .before .before in
-    let else = read .before in
-    let told = else .before .before in
-    let a = entry (told .before .before .before) .args in
-    let n = next-placed (onTable (a .table) (now (a .arena))) (now (a .s)) (now (a .out)) (a .room) (a .c) _ _ (stands told) (else .if1 .left) _ (read .read-on .ensures .0 (now (a .arena)) ∙ line-on _ _ _ _ _) (place .place .ensures .0) _ (place .place .ensures .1) in
+returns-2 : tie.Need-returns-2
+returns-2 c =
+    let line = c .before .before in
+    let told = line .before .before .before .before .before .before in
+    let from = told .before .before .before in
+    let a = entry from .args in
+    let n = next-in (a .t3) (now (a .arena)) (now (a .s)) (now (a .out)) _ (a .room) (a .c) _ (sym (from .begin-on .ensures) ∙ ap begunBy (told .before .from2 .given .1)) _ (line .line-on .ensures .0) (line .line-on .ensures .1) in
     (n .answer, n .bytes)
 
 pub next-on-spec : {M : Type 1} → statement M
@@ -79,10 +54,7 @@ next-on-spec =
     enum-known-from
     ended-requires
     enum-known-from-2
-    ended-requires-2
+    line-on-requires
     returns
-    read-on-requires
-    place-requires
-    returns-2
     same-length
-    returns-3)
+    returns-2)
