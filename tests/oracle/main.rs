@@ -1,4 +1,5 @@
 //! The differential runs: calls on the crate and on the program replay, compared step by step (docs/DIFFERENCES.md).
+mod bounds;
 mod calls;
 mod compare;
 mod exhaustive;

@@ -2,7 +2,7 @@
 # run.sh [--rust DIR] [--build wraps|panics] WHAT: the crate and the program replay, call by call (docs/DIFFERENCES.md).
 #   random SEED STEPS      random sequences of calls; STEPS may be a number of minutes, as 5m
 #   short NAME             all short inputs of a kind: integers, bytes, prefixes, bounds, encoder-streams, decoder-streams,
-#                          encoder-streams-3, decoder-streams-3 (half an hour each), sections, stateless, or all
+#                          encoder-streams-3, decoder-streams-3 (half an hour each), sections, stateless, rooms, or all
 #   lists                  the fixed lists of tests/lists that the crate has calls for; the gate replays all of them
 #   sample SEED STEPS      writes such a list: the shortest script for each call, answer and difference that a run meets
 #   differences            the names of the listed differences
