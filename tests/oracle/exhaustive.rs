@@ -235,8 +235,12 @@ fn in_rooms(s: &[u8]) -> Vec<Command> {
     let mut calls = Vec::new();
     for records in 0..=2 {
         for room in 0..=52 {
-            calls.push(Command::new(op::SECTION_ON, 2, &[records], &[s]).buffer(room, 0xaa));
-            calls.push(Command::new(op::SECTION_STATELESS, 0, &[records, 70 + room % 8], &[s]).buffer(room, 0xaa));
+            for o in [op::SECTION_ON, op::DECODE_HEADER] {
+                calls.push(Command::new(o, 2, &[records], &[s]).buffer(room, 0xaa));
+            }
+            for o in [op::SECTION_STATELESS, op::DECODE_STATELESS] {
+                calls.push(Command::new(o, 0, &[records, 70 + room % 8], &[s]).buffer(room, 0xaa));
+            }
         }
     }
     calls

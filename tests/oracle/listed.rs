@@ -52,7 +52,7 @@ fn while_closed(o: u8) -> bool {
     matches!(
         o,
         op::SET_CAPACITY | op::SET_MAX_BLOCKED | op::PUT | op::BEGIN | op::ACKNOWLEDGE | op::CANCEL | op::INCREMENT
-            | op::ON_ENCODER_RECV | op::ON_DECODER_RECV | op::SECTION_ON
+            | op::ON_ENCODER_RECV | op::ON_DECODER_RECV | op::SECTION_ON | op::DECODE_HEADER
     )
 }
 

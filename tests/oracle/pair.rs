@@ -3,7 +3,7 @@ use crate::calls::{self, Expect};
 use crate::leaves;
 use crate::listed::Listed;
 use crate::ours::{seen, Ours, Seen};
-use crate::script::{op, Command};
+use crate::script::{is_section_on, is_stateless, op, Command};
 use crate::sections;
 use crate::streams::{self, Judged};
 use crate::table::Table;
@@ -46,12 +46,12 @@ pub struct Met {
 }
 
 pub fn is_on_table(o: u8) -> bool {
-    o <= op::COPY || o == op::SECTION_ON
+    o <= op::COPY || is_section_on(o)
 }
 
 /// A call after which the whole table is compared. A section takes a table by value and hands none back; a copy is compared with the call after it.
 fn is_shown(o: u8) -> bool {
-    is_on_table(o) && o != op::SECTION_ON && o != op::COPY
+    is_on_table(o) && !is_section_on(o) && o != op::COPY
 }
 
 impl Pair {
@@ -118,8 +118,8 @@ impl Pair {
     fn alone(&mut self, c: &Command, ours: &str) -> Judged {
         match c.op {
             op::COPY => self.copied(c, ours),
-            op::SECTION_ON => stream_call(&mut self.tables[c.table as usize], c, ours),
-            op::SECTION_STATELESS => sections::section(&mut self.tables[0], c, ours),
+            o if is_section_on(o) => stream_call(&mut self.tables[c.table as usize], c, ours),
+            o if is_stateless(o) => sections::section(&mut self.tables[0], c, ours),
             _ => leaves::judge(c, ours),
         }
     }
@@ -170,7 +170,7 @@ impl Pair {
             return self.tables_equal(c, after, None);
         }
         let t = &mut self.tables[c.table as usize];
-        let listed = if matches!(c.op, op::ON_ENCODER_RECV | op::ON_DECODER_RECV | op::SECTION_ON) {
+        let listed = if matches!(c.op, op::ON_ENCODER_RECV | op::ON_DECODER_RECV) || is_section_on(c.op) {
             stream_call(t, c, ours)?
         } else {
             match calls::call(t, c) {

@@ -83,6 +83,18 @@ opcodes! {
     LINE_KIND 54: 0 0 1 0;
     SECTION_ON 58: 1 1 1 1;
     SECTION_STATELESS 59: 0 1 2 1;
+    DECODE_HEADER 92: 1 1 1 1;
+    DECODE_STATELESS 93: 0 1 2 1;
+}
+
+/// A section on a table, its records as numbers or as structs.
+pub fn is_section_on(o: u8) -> bool {
+    matches!(o, op::SECTION_ON | op::DECODE_HEADER)
+}
+
+/// A section with no table.
+pub fn is_stateless(o: u8) -> bool {
+    matches!(o, op::SECTION_STATELESS | op::DECODE_STATELESS)
 }
 
 /// How many bytes of an arena are lent where nothing else is tried: what document 01 asks for.

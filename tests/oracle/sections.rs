@@ -1,7 +1,7 @@
 //! Sections: what document 01 says of each, line by line with the crate's own reader of one line, and what the crate says of the whole.
 use crate::listed::{self, Listed};
 use crate::numbers::{self, PANIC};
-use crate::script::{op, Command};
+use crate::script::{is_section_on, is_stateless, Command};
 use crate::streams::{buffer, Judged};
 use crate::table::Table;
 use h3::qpack::block::HeaderPrefix;
@@ -69,7 +69,7 @@ impl Reading {
 /// The crate's answer to a whole section.
 fn whole(t: &mut Table, c: &Command) -> Reading {
     let mut s = Cursor::new(&c.strings[0][..]);
-    let answer = if c.op == op::SECTION_STATELESS {
+    let answer = if is_stateless(c.op) {
         catch_unwind(AssertUnwindSafe(|| decode_stateless(&mut s, c.numbers[1])))
     } else {
         let d = Decoder { table: std::mem::take(&mut t.rust) };
@@ -101,10 +101,7 @@ fn line_stateless(s: &[u8]) -> Result<(HeaderField, usize), DecoderError> {
 
 /// A line's field and end, or a number.
 fn line(t: &Table, c: &Command, base: usize, s: &[u8]) -> Result<(HeaderField, usize), u32> {
-    let read = catch_unwind(AssertUnwindSafe(|| match c.op {
-        op::SECTION_STATELESS => line_stateless(s),
-        _ => line_on(&t.rust, base, s),
-    }));
+    let read = catch_unwind(AssertUnwindSafe(|| if is_stateless(c.op) { line_stateless(s) } else { line_on(&t.rust, base, s) }));
     read.map_err(|_| PANIC)?.map_err(|e| numbers::of_decoder(&e))
 }
 
@@ -112,7 +109,7 @@ fn line(t: &Table, c: &Command, base: usize, s: &[u8]) -> Result<(HeaderField, u
 fn listed_line(c: &Command, base: u64, s: &[u8]) -> Option<&'static Listed> {
     // "post-base in the stateless reader is 13 at its first byte"
     let post_base = s[0] & 0xe0 == 0;
-    if c.op == op::SECTION_STATELESS {
+    if is_stateless(c.op) {
         return (!post_base && listed::is_huffman_line(s)).then_some(&listed::HUFFMAN);
     }
     if listed::is_huffman_line(s) {
@@ -145,7 +142,7 @@ fn lines(t: &Table, c: &Command, by: By, mut at: usize, base: u64, r: &mut Readi
             }
         };
         let size = r.size + f.mem_size() as u64;
-        if c.op == op::SECTION_STATELESS && size > c.numbers[1] {
+        if is_stateless(c.op) && size > c.numbers[1] {
             r.number = 25;
             return None;
         }
@@ -164,7 +161,7 @@ fn lines(t: &Table, c: &Command, by: By, mut at: usize, base: u64, r: &mut Readi
 
 /// The counts that a prefix is read with.
 fn counts(t: &Table, c: &Command) -> (u64, u64) {
-    if c.op == op::SECTION_ON { (t.rust.vas.inserted as u64, t.rust.max_size as u64) } else { (0, 0) }
+    if is_section_on(c.op) { (t.rust.vas.inserted as u64, t.rust.max_size as u64) } else { (0, 0) }
 }
 
 /// By document 01: RFC 9204 4.5.1 for the prefix, and then the lines.
