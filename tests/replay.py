@@ -65,7 +65,8 @@ CALLS = [
     ("next_on", 2, 1, "records started dynamic base at used count size", "bytes"),
     ("next_stateless", 0, 1, "records started dynamic base at used count size max", "bytes"),
     ("static_entry", 0, 0, "index", ""), ("entry_on", 1, 0, "reference base index", ""),
-    ("entry_static", 0, 0, "reference index", ""),
+    ("entry_static", 0, 0, "reference index", ""), ("decode_header", 2, 1, "records", "bytes"),
+    ("decode_stateless", 0, 1, "records max", "bytes"),
 ]
 
 # Words that may stand for a number.

@@ -4,6 +4,7 @@ use script::answer;
 use script::input::ARENA;
 use script::input::Command;
 use script::input::Texts;
+use script::opcodes::OPCODES;
 use script::say;
 use script::text;
 
@@ -38,7 +39,7 @@ const STATELESS: u8 = 13;
 const PUSHED: u8 = 14;
 
 // Each opcode's group.
-const GROUPS: [u8; 92] = [
+const GROUPS: [u8; OPCODES] = [
     0,
     0,
     0,
@@ -131,6 +132,8 @@ const GROUPS: [u8; 92] = [
     9,
     4,
     9,
+    5,
+    13,
 ];
 
 fn index(x: u8) -> usize {
@@ -139,7 +142,7 @@ fn index(x: u8) -> usize {
 
 // An opcode's group.
 pub fn group_of(op: u8) -> u8 {
-    GROUPS[index(op) % 92]
+    GROUPS[index(op) % OPCODES]
 }
 
 // A call on a table, and the table after it.
