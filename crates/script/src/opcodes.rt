@@ -3,7 +3,7 @@ ghost use mathlib.Core.Path.{_≡_};
 ghost use Prim.Native.Nat.{_≤_};
 
 // How many opcodes there are.
-pub const OPCODES: usize = 94;
+pub const OPCODES: usize = 96;
 
 // For each opcode five digits: whether it has a table (1) and an arena (2), whether an output buffer, how many more numbers, how many strings, and which bounds the first number has.
 const SHAPES: [u16; OPCODES] = [
@@ -195,6 +195,10 @@ const SHAPES: [u16; OPCODES] = [
     21116,
     // decode_stateless
     1216,
+    // begin_on
+    20710,
+    // line_on
+    21810,
 ];
 
 // What a command has, if its opcode is known.

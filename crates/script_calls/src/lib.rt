@@ -25,12 +25,10 @@ const IN_ARENA: u8 = 6;
 
 const CHANGE: u8 = 8;
 
-// The groups that have none: readers, writers, and the rest of the calls on numbers.
+// The groups that have none: readers, sections and numbers of the table's, and the leaves' calls.
 pub const WITHOUT_TABLE: u8 = 9;
 
 const READ: u8 = 9;
-
-const WRITE: u8 = 10;
 
 const CAPACITY: u8 = 12;
 
@@ -69,29 +67,29 @@ const GROUPS: [u8; OPCODES] = [
     11,
     11,
     11,
-    10,
-    11,
-    11,
-    10,
-    11,
-    11,
-    11,
-    10,
     11,
     11,
     11,
     11,
     11,
-    9,
-    9,
-    9,
-    10,
-    10,
-    10,
-    9,
-    10,
-    10,
-    10,
+    11,
+    11,
+    11,
+    11,
+    11,
+    11,
+    11,
+    11,
+    11,
+    11,
+    11,
+    11,
+    11,
+    11,
+    11,
+    11,
+    11,
+    11,
     11,
     11,
     11,
@@ -102,8 +100,8 @@ const GROUPS: [u8; OPCODES] = [
     13,
     11,
     11,
-    10,
-    10,
+    11,
+    11,
     14,
     6,
     6,
@@ -134,6 +132,8 @@ const GROUPS: [u8; OPCODES] = [
     9,
     5,
     13,
+    5,
+    5,
 ];
 
 fn index(x: u8) -> usize {
@@ -189,11 +189,10 @@ fn beside(
 fn alone(c: Command, group: u8, name: &[u8], value: &[u8], out: &mut [u8]) {
     match group {
         READ => say::say(script_readers::read(c, name)),
-        WRITE => script_leaves::write(c, name, value, out),
         CAPACITY => say::say(script_table::capacity(c.a as usize)),
         STATELESS => script_table::stateless(c, name, out),
         PUSHED => say::say(script_table::push_reply(c.a, c.b as usize)),
-        _ => say::say(script_leaves::ask(c, name, value)),
+        _ => script_leaves::call(c, name, value, out),
     }
 }
 

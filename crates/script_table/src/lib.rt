@@ -96,12 +96,14 @@ pub fn call(
     }
 }
 
-// A section, or one step of it, on a table.
+// A section, its prefix, or one step of it, on a table.
 pub fn sections(t: Table, c: Command, arena: &[u8], s: &[u8], out: &mut [u8]) {
     let op = c.op;
     match op {
         58 => section::on_table(t, c, arena, s, out),
         92 => section::decode_header(t, c, arena, s, out),
+        94 => step::begin_on(t, c, arena, s),
+        95 => step::line_on(t, c, arena, s, out),
         _ => step::on_table(t, c, arena, s, out),
     }
 }
