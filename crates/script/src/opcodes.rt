@@ -195,9 +195,9 @@ const SHAPES: [u16; OPCODES] = [
     21116,
     // decode_stateless
     1216,
-    // begin_on
+    // section_begin
     20710,
-    // line_on
+    // section_line
     21810,
 ];
 
