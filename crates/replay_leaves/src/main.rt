@@ -20,12 +20,16 @@ fn fault_of(c: Command, x: Texts) -> u8 {
     input::UNKNOWN
 }
 
-// Makes a command's call.
-fn make(c: Command, x: Texts, name: &[u8; FIRST], value: &[u8; LONGEST], out: &mut [u8; LONGEST]) {
+// Makes a command's call with the strings and the buffer that it asks for.
+fn lent(c: Command, x: Texts, name: &[u8], value: &[u8], out: &mut [u8]) {
     let n = text::within(x.name, name);
     let v = text::within(x.value, value);
     let room = text::within(c.room, out);
     script_leaves::call(c, &name[..n], &value[..v], &mut out[..room]);
+}
+
+fn make(c: Command, x: Texts, name: &[u8; FIRST], value: &[u8; LONGEST], out: &mut [u8; LONGEST]) {
+    lent(c, x, name, value, out)
 }
 
 fn main() {
