@@ -4,6 +4,8 @@
     python3 tests/replay.py [FILE..] < lines > script
     python3 tests/replay.py --answers [FILE..] < lines > answers
     python3 tests/replay.py --show [FILE..] < script > lines
+
+With --leaves only the calls that need no table, which are those that the program replay_leaves takes.
 """
 import re
 import sys
@@ -65,8 +67,14 @@ CALLS = [
     ("next_on", 2, 1, "records started dynamic base at used count size", "bytes"),
     ("next_stateless", 0, 1, "records started dynamic base at used count size max", "bytes"),
     ("static_entry", 0, 0, "index", ""), ("entry_on", 1, 0, "reference base index", ""),
-    ("entry_static", 0, 0, "reference index", ""),
+    ("entry_static", 0, 0, "reference index", ""), ("decode_header", 2, 1, "records", "bytes"),
+    ("decode_stateless", 0, 1, "records max", "bytes"),
+    ("section_begin", 2, 0, "started dynamic base at used count size", "bytes"),
+    ("section_line", 2, 1, "records started dynamic base at used count size", "bytes"),
 ]
+
+# The opcodes that the program replay_leaves takes: calls that need no table.
+LEAVES = {*range(26, 57), *range(60, 64), 85, 86}
 
 # Words that may stand for a number.
 WORDS = {
@@ -191,16 +199,21 @@ def calls_of(files):
     return calls
 
 
-def write_script(files, out):
-    for where, line, _ in calls_of(files):
+def leaves_of(calls):
+    """The calls among them that need no table."""
+    return [call for call in calls if OPCODES.get(call[1].split()[0]) in LEAVES]
+
+
+def write_script(calls, out):
+    for where, line, _ in calls:
         try:
             out.write(script_of(line))
         except Bad as why:
             raise Bad(f"{where}: {why}")
 
 
-def write_answers(files, out):
-    for where, line, answers in calls_of(files):
+def write_answers(calls, out):
+    for where, line, answers in calls:
         if not answers:
             raise Bad(f"{where}: no answer is expected of {line.split()[0]}")
         if len(answers) > 1:
@@ -262,15 +275,17 @@ def read_files(names):
 def main():
     modes = [word for word in sys.argv[1:] if word.startswith("--")]
     files = [word for word in sys.argv[1:] if not word.startswith("--")]
-    if modes not in ([], ["--show"], ["--answers"]):
-        raise Bad("usage: replay.py [--show | --answers] [FILE..]")
+    if modes not in ([], ["--show"], ["--answers"], ["--leaves"], ["--leaves", "--answers"]):
+        raise Bad("usage: replay.py [--show | [--leaves] [--answers]] [FILE..]")
     data = read_files(files)
     if modes == ["--show"]:
         write_lines(b"".join(part for _, part in data), sys.stdout)
-    elif modes == ["--answers"]:
-        write_answers(data, sys.stdout)
+        return
+    calls = leaves_of(calls_of(data)) if "--leaves" in modes else calls_of(data)
+    if "--answers" in modes:
+        write_answers(calls, sys.stdout)
     else:
-        write_script(data, sys.stdout.buffer)
+        write_script(calls, sys.stdout.buffer)
 
 
 if __name__ == "__main__":

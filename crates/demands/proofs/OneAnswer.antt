@@ -11,6 +11,7 @@
 -- | on_encoder_recv | Receives (encoder_stream) | one-encoder-call |
 -- | on_decoder_recv | Receives (decoder_stream) | one-decoder-call |
 -- | decode_header, decode_stateless, read_on, read_stateless (decoder) | sectionOf r fields out ≡ readAll .. | one-section |
+-- | decode_header_listed, decode_stateless_listed (listed) | Lists | one-listed |
 -- | next_on, next_stateless, line_on (section_steps) | r ≡ lineOf .. or lineIn .., out ≡ outOf .. or outIn .. | one-step |
 -- | begin_on (section_steps) | begunBy r ≡ .. | one-begun (Meanings) |
 -- | every writer: prefix_int, prefix_string, shapes, stream, block; static_table::copy, arena::copy | Writes | one-write |
@@ -35,13 +36,16 @@ use mathlib.Core.Path.{_≡_, sym, ap, _∙_}
 use mathlib.Core.List.{List, [], _++_}
 use mathlib.Core.Option.{Option}
 use Prim.Native.Nat.{ℕ}
-use lib.ListN.{length, drop}
+use lib.ListN.{length, take, drop, take-append-drop}
 use Rattle.answers.specs.Answer.{Answer}
 use Rattle.answers.specs.Table.{Done}
 use Rattle.answers.specs.Write.{Writes}
 use Rattle.answers.specs.declared.Written.{Written}
 use Rattle.decoder.specs.Section as section
+use Rattle.listed.specs.Lent.{Lists}
+use Rattle.listed.specs.declared.Listed.{Listed}
 use Rattle.section_steps.specs.declared.Decoded.{Decoded}
+use Rattle.section_steps.specs.declared.Field.{Field as Record}
 use Rattle.section_steps.specs.declared.Line.{Line}
 use Rattle.decoder_stream.specs.Reports as reports
 use Rattle.decoder_stream.specs.declared.Reported.{Reported}
@@ -127,6 +131,15 @@ one-section {R} r r′ fs fs′ m m′ w w′ =
       ap (λ (z : section.Section R). z .fields) same,
       ap (λ (z : section.Section R). z .out) same,
     )
+
+-- what is returned, all its records with it, and the buffer
+pub one-listed : (k : section.Reader) (s out : List ℕ) (fill : Record) (n : ℕ) (r r′ : Listed) (m m′ : List ℕ)
+    → Lists k s fill n out r m → Lists k s fill n out r′ m′ → (r ≡ r′) × (m ≡ m′)
+one-listed k s out fill n r r′ m m′ w w′ =
+    let same = one-section (r .decoded) (r′ .decoded) (take n (r .fields)) (take n (r′ .fields)) m m′ (w .0) (w′ .0) in
+    let fields : r .fields ≡ r′ .fields =
+    sym (take-append-drop n (r .fields)) ∙ ap (λ (l : List Record). l ++ drop n (r .fields)) (same .1) ∙ ap (λ (l : List Record). take n (r′ .fields) ++ l) (one-exact (w .1) (w′ .1)) ∙ take-append-drop n (r′ .fields) in
+    (λ i. record { decoded = same .0 i; fields = fields i }, same .2)
 
 -- one line at a time: what is told, the next cursor, the field, and the buffer
 -- after: the buffer after a step, by its line

@@ -10,6 +10,12 @@ pub const ARENA: usize = 16640;
 // How many bytes a string or a buffer has at the most.
 pub const LONGEST: usize = 65536;
 
+// How many bytes the first string's buffer has: 8 more than the longest string, for the length of the second.
+pub const FIRST: usize = 65544;
+
+// A loop has to end, and nothing says that a script does: a number that no run uses up.
+pub const MOST_COMMANDS: u64 = 9223372036854775807;
+
 // How many tables there are.
 pub const TABLES: usize = 4;
 

@@ -3,10 +3,10 @@ ghost use mathlib.Core.Path.{_≡_};
 ghost use Prim.Native.Nat.{_≤_};
 
 // How many opcodes there are.
-const OPCODES: usize = 92;
+pub const OPCODES: usize = 96;
 
 // For each opcode five digits: whether it has a table (1) and an arena (2), whether an output buffer, how many more numbers, how many strings, and which bounds the first number has.
-const SHAPES: [u16; 92] = [
+const SHAPES: [u16; OPCODES] = [
     // fresh
     10000,
     // set_capacity
@@ -191,6 +191,14 @@ const SHAPES: [u16; 92] = [
     10305,
     // entry_static
     205,
+    // decode_header
+    21116,
+    // decode_stateless
+    1216,
+    // section_begin
+    20710,
+    // section_line
+    21810,
 ];
 
 // What a command has, if its opcode is known.

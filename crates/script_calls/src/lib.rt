@@ -4,6 +4,7 @@ use script::answer;
 use script::input::ARENA;
 use script::input::Command;
 use script::input::Texts;
+use script::opcodes::OPCODES;
 use script::say;
 use script::text;
 
@@ -24,12 +25,10 @@ const IN_ARENA: u8 = 6;
 
 const CHANGE: u8 = 8;
 
-// The groups that have none: readers, writers, and the rest of the calls on numbers.
+// The groups that have none: readers, sections and numbers of the table's, and the leaves' calls.
 pub const WITHOUT_TABLE: u8 = 9;
 
 const READ: u8 = 9;
-
-const WRITE: u8 = 10;
 
 const CAPACITY: u8 = 12;
 
@@ -38,7 +37,7 @@ const STATELESS: u8 = 13;
 const PUSHED: u8 = 14;
 
 // Each opcode's group.
-const GROUPS: [u8; 92] = [
+const GROUPS: [u8; OPCODES] = [
     0,
     0,
     0,
@@ -68,29 +67,29 @@ const GROUPS: [u8; 92] = [
     11,
     11,
     11,
-    10,
-    11,
-    11,
-    10,
-    11,
-    11,
-    11,
-    10,
     11,
     11,
     11,
     11,
     11,
-    9,
-    9,
-    9,
-    10,
-    10,
-    10,
-    9,
-    10,
-    10,
-    10,
+    11,
+    11,
+    11,
+    11,
+    11,
+    11,
+    11,
+    11,
+    11,
+    11,
+    11,
+    11,
+    11,
+    11,
+    11,
+    11,
+    11,
+    11,
     11,
     11,
     11,
@@ -101,8 +100,8 @@ const GROUPS: [u8; 92] = [
     13,
     11,
     11,
-    10,
-    10,
+    11,
+    11,
     14,
     6,
     6,
@@ -131,6 +130,10 @@ const GROUPS: [u8; 92] = [
     9,
     4,
     9,
+    5,
+    13,
+    5,
+    5,
 ];
 
 fn index(x: u8) -> usize {
@@ -139,7 +142,7 @@ fn index(x: u8) -> usize {
 
 // An opcode's group.
 pub fn group_of(op: u8) -> u8 {
-    GROUPS[index(op) % 92]
+    GROUPS[index(op) % OPCODES]
 }
 
 // A call on a table, and the table after it.
@@ -186,11 +189,10 @@ fn beside(
 fn alone(c: Command, group: u8, name: &[u8], value: &[u8], out: &mut [u8]) {
     match group {
         READ => say::say(script_readers::read(c, name)),
-        WRITE => script_leaves::write(c, name, value, out),
         CAPACITY => say::say(script_table::capacity(c.a as usize)),
         STATELESS => script_table::stateless(c, name, out),
         PUSHED => say::say(script_table::push_reply(c.a, c.b as usize)),
-        _ => say::say(script_leaves::ask(c, name, value)),
+        _ => script_leaves::call(c, name, value, out),
     }
 }
 

@@ -1,12 +1,13 @@
-// A script's calls on integers, strings, the static table, indexes, kinds and refusals, and those of every writer.
+// A script's calls on integers, strings, the static table, indexes, kinds and refusals, and those of single instructions and field lines.
 pub mod kinds;
 mod leaf;
+pub mod readers;
 mod refusals;
 mod writers;
 
 use script::answer::Answer;
 use script::input::Command;
-pub use writers::write;
+use script::say;
 
 // A call on numbers, or on the static table.
 fn asked(c: Command, name: &[u8], value: &[u8]) -> Answer {
@@ -28,7 +29,7 @@ fn asked(c: Command, name: &[u8], value: &[u8]) -> Answer {
 }
 
 // A call on numbers, on bytes or on the static table.
-pub fn ask(c: Command, name: &[u8], value: &[u8]) -> Answer {
+fn ask(c: Command, name: &[u8], value: &[u8]) -> Answer {
     let op = c.op;
     let at = c.a as usize;
     match op {
@@ -37,5 +38,30 @@ pub fn ask(c: Command, name: &[u8], value: &[u8]) -> Answer {
         60 => leaf::text_after(name, at, c.b),
         61 => leaf::texts(name, at, c.b),
         _ => asked(c, name, value),
+    }
+}
+
+// Whether an opcode is one of these calls.
+pub fn has(op: u8) -> bool {
+    match op {
+        26..=56 => true,
+        60..=63 => true,
+        85..=86 => true,
+        _ => false,
+    }
+}
+
+// Makes a call and writes its answer.
+pub fn call(c: Command, name: &[u8], value: &[u8], out: &mut [u8]) {
+    let op = c.op;
+    match op {
+        42..=44 => say::say(readers::read(c, name)),
+        48 => say::say(readers::read(c, name)),
+        29 => writers::write(c, name, value, out),
+        32 => writers::write(c, name, value, out),
+        36 => writers::write(c, name, value, out),
+        45..=51 => writers::write(c, name, value, out),
+        62..=63 => writers::write(c, name, value, out),
+        _ => say::say(ask(c, name, value)),
     }
 }

@@ -1,8 +1,6 @@
 // A script's calls of the readers: instructions, reports, prefixes and field lines.
 mod fields;
 
-use block::LineRead;
-use block::Reference;
 use decoder_stream::ReportRead;
 use header_prefix::PrefixRead;
 use instructions::InstructionRead;
@@ -11,27 +9,12 @@ use ring::Ring;
 use script::answer;
 use script::answer::Answer;
 use script::input::Command;
-use script_leaves::kinds;
-use stream::IntegerRead;
-use stream::LiteralRead;
-use stream::NameRefRead;
-
-// The bytes end inside.
-fn cut() -> Answer {
-    answer::worded(answer::done(), answer::CUT)
-}
+use script_leaves::readers::cut;
+use script_leaves::readers::literal_at;
 
 // A word and two numbers.
 fn pair(word: usize, a: usize, b: usize) -> Answer {
     answer::worded(answer::two(a, b), word)
-}
-
-// Where two strings stand, and the position past them.
-fn literal_at(name: usize, name_len: usize, value: usize, value_len: usize, next: usize) -> Answer {
-    answer::worded(
-        answer::five(name, name_len, value, value_len, next),
-        answer::LITERAL,
-    )
 }
 
 fn report(s: &[u8], at: usize) -> Answer {
@@ -96,96 +79,6 @@ fn prefix(s: &[u8], at: usize, total: usize, capacity: usize) -> Answer {
     }
 }
 
-fn integer(s: &[u8], at: usize, kind: u64) -> Answer {
-    let r = stream::read_integer(s, at, kinds::kind_of(kind));
-    match r {
-        IntegerRead::Integer { value, next } => answer::two(value as usize, next),
-        IntegerRead::Cut => cut(),
-        IntegerRead::Refused(why) => answer::refused(why),
-    }
-}
-
-fn name_ref(s: &[u8], at: usize) -> Answer {
-    let r = stream::read_name_ref(s, at);
-    match r {
-        NameRefRead::NameRef {
-            is_static,
-            index,
-            value,
-            value_len,
-            next,
-        } => answer::five(
-            answer::bit(is_static),
-            index as usize,
-            value,
-            value_len,
-            next,
-        ),
-        NameRefRead::Cut => cut(),
-        NameRefRead::Refused(why) => answer::refused(why),
-    }
-}
-
-fn literal(s: &[u8], at: usize) -> Answer {
-    let r = stream::read_literal(s, at);
-    match r {
-        LiteralRead::Literal {
-            name,
-            name_len,
-            value,
-            value_len,
-            next,
-        } => answer::five(name, name_len, value, value_len, next),
-        LiteralRead::Cut => cut(),
-        LiteralRead::Refused(why) => answer::refused(why),
-    }
-}
-
-// The answer with a reference's word, before its index.
-fn referred(a: Answer, r: Reference) -> Answer {
-    match r {
-        Reference::Static(_) => answer::worded(a, answer::STATIC),
-        Reference::Relative(_) => answer::worded(a, answer::RELATIVE),
-        Reference::PostBase(_) => answer::worded(a, answer::POST_BASE),
-    }
-}
-
-// A reference's index.
-fn index_of(r: Reference) -> usize {
-    match r {
-        Reference::Static(i) => i as usize,
-        Reference::Relative(i) => i as usize,
-        Reference::PostBase(i) => i as usize,
-    }
-}
-
-fn line(s: &[u8], at: usize) -> Answer {
-    let r = block::read_line(s, at);
-    match r {
-        LineRead::Indexed { field, next } => {
-            let a = referred(answer::two(index_of(field), next), field);
-            answer::headed(a, answer::INDEXED)
-        }
-        LineRead::Named {
-            name,
-            value,
-            value_len,
-            next,
-        } => {
-            let a = answer::four(index_of(name), value, value_len, next);
-            answer::headed(referred(a, name), answer::NAMED)
-        }
-        LineRead::Literal {
-            name,
-            name_len,
-            value,
-            value_len,
-            next,
-        } => literal_at(name, name_len, value, value_len, next),
-        LineRead::Refused(why) => answer::refused(why),
-    }
-}
-
 // A reader's call.
 pub fn read(c: Command, s: &[u8]) -> Answer {
     let op = c.op;
@@ -195,10 +88,6 @@ pub fn read(c: Command, s: &[u8]) -> Answer {
         23 => instruction(s, at),
         24 => prefix(s, at, c.b as usize, c.c as usize),
         25 => fields::line_static(s, at),
-        42 => integer(s, c.b as usize, c.a),
-        43 => name_ref(s, at),
-        44 => literal(s, at),
-        48 => line(s, at),
         89 => fields::static_entry(c.a),
         _ => fields::entry_static(c.a, c.b),
     }

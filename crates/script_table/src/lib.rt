@@ -96,20 +96,26 @@ pub fn call(
     }
 }
 
-// A section, or one step of it, on a table.
+// A section, its prefix, or one step of it, on a table.
 pub fn sections(t: Table, c: Command, arena: &[u8], s: &[u8], out: &mut [u8]) {
-    if c.op == 58 {
-        return section::on_table(t, c, arena, s, out);
+    let op = c.op;
+    match op {
+        58 => section::on_table(t, c, arena, s, out),
+        92 => section::decode_header(t, c, arena, s, out),
+        94 => step::begin_on(t, c, arena, s),
+        95 => step::line_on(t, c, arena, s, out),
+        _ => step::on_table(t, c, arena, s, out),
     }
-    step::on_table(t, c, arena, s, out)
 }
 
 // A section, or one step of it, without a table.
 pub fn stateless(c: Command, s: &[u8], out: &mut [u8]) {
-    if c.op == 59 {
-        return section::stateless(c, s, out);
+    let op = c.op;
+    match op {
+        59 => section::stateless(c, s, out),
+        93 => section::decode_stateless(c, s, out),
+        _ => step::stateless(c, s, out),
     }
-    step::stateless(c, s, out)
 }
 
 // Whether a table may have a capacity.

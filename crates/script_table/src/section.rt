@@ -3,16 +3,16 @@ ghost use mathlib.Core.Path.{_≡_};
 ghost use Prim.Native.Nat.{_≤_};
 ghost use lib.ListN.{length};
 use decoder::Decoded;
+use decoder::Field;
 use decoder::MaxSize;
 use dynamic::Table;
+use listed::Listed;
+use listed::RECORDS;
 use script::answer;
 use script::input::Command;
 use script::say;
 use script::text;
 use script::text::Line;
-
-// How many records are lent at the most.
-const RECORDS: usize = 1024;
 
 fn wide(x: u8) -> usize {
     x as usize
@@ -82,25 +82,79 @@ fn decoded(d: Decoded) -> Line {
     say::line_of(answer::replied(reply, 4, values))
 }
 
+// Writes a section's answer, the lent records and the buffer.
+fn tell(d: Decoded, records: [[usize; 3]; RECORDS], count: usize, out: &[u8], fill: u8)
+    requires { ⌜ count ≤ 1024 ⌝ }
+{
+    let line = all(decoded(d), records, count, wide(fill));
+    text::end(text::buffer(line, out, fill));
+}
+
+fn max_of(bytes: u64) -> MaxSize {
+    MaxSize {
+        bytes: bytes as usize,
+    }
+}
+
 pub fn on_table(t: Table, c: Command, arena: &[u8], s: &[u8], out: &mut [u8]) {
     let count = lent_of(c.a);
-    let fill = wide(c.fill);
-    let mut records = blank(fill);
+    let mut records = blank(wide(c.fill));
     text::fill(out, c.fill);
     let d = decoder::read_on(s, arena, t, &mut records[..count], out);
-    let line = all(decoded(d), records, count, fill);
-    text::end(text::buffer(line, out, c.fill));
+    tell(d, records, count, out, c.fill);
 }
 
 pub fn stateless(c: Command, s: &[u8], out: &mut [u8]) {
     let count = lent_of(c.a);
-    let fill = wide(c.fill);
-    let mut records = blank(fill);
+    let mut records = blank(wide(c.fill));
     text::fill(out, c.fill);
-    let max = MaxSize {
-        bytes: c.b as usize,
-    };
-    let d = decoder::read_stateless(s, max, &mut records[..count], out);
-    let line = all(decoded(d), records, count, fill);
-    text::end(text::buffer(line, out, c.fill));
+    let d = decoder::read_stateless(s, max_of(c.b), &mut records[..count], out);
+    tell(d, records, count, out, c.fill);
+}
+
+// A record that was never written.
+fn blank_field(fill: usize) -> Field {
+    Field {
+        start: fill,
+        name: fill,
+        value: fill,
+    }
+}
+
+// A list's records as three numbers each.
+fn numbers_of(fields: [Field; RECORDS]) -> [[usize; 3]; RECORDS]
+    ensures { λ r. ⌜ 1024 ≡ length r ⌝ }
+{
+    let mut records = blank(0);
+    let mut i = 0;
+    while i < RECORDS {
+        let f = fields[i];
+        records[i] = [f.start, f.name, f.value];
+        i += 1;
+    }
+    records
+}
+
+// Writes a section's answer, the lent records of a list of structs, and the buffer.
+fn tell_listed(l: Listed, count: usize, out: &[u8], fill: u8)
+    requires { ⌜ count ≤ 1024 ⌝ }
+{
+    let fields = l.fields;
+    tell(l.decoded, numbers_of(fields), count, out, fill);
+}
+
+pub fn decode_header(t: Table, c: Command, arena: &[u8], s: &[u8], out: &mut [u8]) {
+    let count = lent_of(c.a);
+    let blank = blank_field(wide(c.fill));
+    text::fill(out, c.fill);
+    let l = listed::decode_header_listed(s, arena, t, blank, count, out);
+    tell_listed(l, count, out, c.fill);
+}
+
+pub fn decode_stateless(c: Command, s: &[u8], out: &mut [u8]) {
+    let count = lent_of(c.a);
+    let blank = blank_field(wide(c.fill));
+    text::fill(out, c.fill);
+    let l = listed::decode_stateless_listed(s, max_of(c.b), blank, count, out);
+    tell_listed(l, count, out, c.fill);
 }

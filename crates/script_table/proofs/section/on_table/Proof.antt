@@ -26,17 +26,8 @@ slice-aggregate-read-on c = sym (length-take-le _ _ (search needs))
 read-on-requires : tie.Need-read-on-requires
 read-on-requires c κs = search needs
 
-decoded-requires : tie.Need-decoded-requires
-decoded-requires c κs = search needs
-
-all-requires : tie.Need-all-requires
-all-requires c κs = search needs
-
-buffer-requires : tie.Need-buffer-requires
-buffer-requires c κs = search needs
-
-end-requires : tie.Need-end-requires
-end-requires c κs = search needs
+tell-requires : tie.Need-tell-requires
+tell-requires c κs = search needs
 
 same-length : tie.Need-same-length
 same-length c = search needs
@@ -55,9 +46,6 @@ on-table-spec =
     array-borrow-prefix-records
     slice-aggregate-read-on
     read-on-requires
-    decoded-requires
-    all-requires
-    buffer-requires
-    end-requires
+    tell-requires
     same-length
     returns)

@@ -17,6 +17,9 @@ blank-requires c κs = search needs
 fill-requires : tie.Need-fill-requires
 fill-requires c κs = search needs
 
+max-of-requires : tie.Need-max-of-requires
+max-of-requires c κs = search needs
+
 array-borrow-prefix-records : tie.Need-array-borrow-prefix-records
 array-borrow-prefix-records c = search needs
 
@@ -26,17 +29,8 @@ slice-aggregate-read-stateless c = sym (length-take-le _ _ (search needs))
 read-stateless-requires : tie.Need-read-stateless-requires
 read-stateless-requires c κs = search needs
 
-decoded-requires : tie.Need-decoded-requires
-decoded-requires c κs = search needs
-
-all-requires : tie.Need-all-requires
-all-requires c κs = search needs
-
-buffer-requires : tie.Need-buffer-requires
-buffer-requires c κs = search needs
-
-end-requires : tie.Need-end-requires
-end-requires c κs = search needs
+tell-requires : tie.Need-tell-requires
+tell-requires c κs = search needs
 
 same-length : tie.Need-same-length
 same-length c = search needs
@@ -52,12 +46,10 @@ stateless-spec =
     wide-requires
     blank-requires
     fill-requires
+    max-of-requires
     array-borrow-prefix-records
     slice-aggregate-read-stateless
     read-stateless-requires
-    decoded-requires
-    all-requires
-    buffer-requires
-    end-requires
+    tell-requires
     same-length
     returns)
