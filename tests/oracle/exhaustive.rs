@@ -21,10 +21,14 @@ pub const LISTS: &[(&str, List)] = &[
     ("rooms", rooms),
 ];
 
-/// All strings of bytes up to a length, shortest first.
-fn strings(longest: usize, mut each: impl FnMut(&[u8]) -> Result<(), Fault>) -> Result<(), Fault> {
-    for len in 0..=longest as u32 {
-        for n in 0..256u64.pow(len) {
+/// All strings of bytes up to a length whose first byte lies in a part, shortest first; the empty one is in the part of 0.
+fn strings(longest: usize, part: (u8, u8), mut each: impl FnMut(&[u8]) -> Result<(), Fault>) -> Result<(), Fault> {
+    if part.0 == 0 {
+        each(&[])?;
+    }
+    for len in 1..=longest as u32 {
+        let one = 256u64.pow(len - 1);
+        for n in part.0 as u64 * one..(part.1 as u64 + 1) * one {
             let b = n.to_be_bytes();
             each(&b[8 - len as usize..])?;
         }
@@ -143,7 +147,7 @@ const TOGETHER: usize = 256;
 fn calls(p: &mut Pair, longest: usize, mut make: impl FnMut(&[u8], &mut Vec<Command>)) -> Result<(), Fault> {
     let made = p.log.len();
     let mut waiting = Vec::new();
-    strings(longest, |s| {
+    strings(longest, p.part, |s| {
         make(s, &mut waiting);
         if waiting.len() < TOGETHER {
             return Ok(());

@@ -28,7 +28,7 @@ pub fn stop(what: &str) -> ! {
     std::process::exit(2)
 }
 
-const USAGE: &str = "usage: differ REPLAY random SEED STEPS|MINUTESm, differ REPLAY short NAME|all, differ REPLAY sample SEED STEPS, \
+const USAGE: &str = "usage: differ REPLAY random SEED STEPS|MINUTESm, differ REPLAY short NAME|all [FIRST LAST], differ REPLAY sample SEED STEPS, \
 differ REPLAY script < SCRIPT, or differ differences";
 
 /// What a run is given: a number of steps, or of minutes.
@@ -67,7 +67,7 @@ fn random(program: &str, seed: &str, end: &str) {
     report(&p);
 }
 
-fn short(program: &str, name: &str) {
+fn short(program: &str, name: &str, part: (u8, u8)) {
     if name != "all" && exhaustive::LISTS.iter().all(|(each, _)| name != *each) {
         stop(&format!("no list {name}; there are all{}", exhaustive::LISTS.iter().map(|(each, _)| format!(", {each}")).collect::<String>()));
     }
@@ -76,10 +76,11 @@ fn short(program: &str, name: &str) {
             continue;
         }
         let mut p = Pair::start(program);
+        p.part = part;
         if let Err(f) = list(&mut p) {
             fault(program, &p, f);
         }
-        println!("short, {each}: {} steps, no unlisted difference", p.steps);
+        println!("short, {each}, first byte {} to {}: {} steps, no unlisted difference", part.0, part.1, p.steps);
         report(&p);
     }
 }
@@ -141,7 +142,11 @@ fn main() {
     match words[..] {
         ["differences"] => listed::ALL.iter().for_each(|l| println!("{}: {}", l.name, l.what)),
         [program, "random", seed, end] => random(program, seed, end),
-        [program, "short", name] => short(program, name),
+        [program, "short", name] => short(program, name, (0, 255)),
+        [program, "short", name, first, last] => match (first.parse(), last.parse()) {
+            (Ok(first), Ok(last)) => short(program, name, (first, last)),
+            _ => stop(USAGE),
+        },
         [program, "script"] => script(program),
         [program, "sample", seed, steps] => match (seed.parse(), steps.parse()) {
             (Ok(seed), Ok(steps)) => sample::sample(program, seed, steps),

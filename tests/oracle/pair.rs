@@ -29,6 +29,8 @@ pub struct Pair {
     pub log: Vec<Command>,
     /// What the last step came to.
     pub last: Option<Met>,
+    /// The first bytes that the lists of all strings take.
+    pub part: (u8, u8),
     /// When the number of steps was last told.
     told: Instant,
 }
@@ -64,6 +66,7 @@ impl Pair {
             steps: 0,
             log: Vec::new(),
             last: None,
+            part: (0, 255),
             told: Instant::now(),
         }
     }

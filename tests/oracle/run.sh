@@ -3,6 +3,7 @@
 #   random SEED STEPS      random sequences of calls; STEPS may be a number of minutes, as 5m
 #   short NAME             all short inputs of a kind: integers, bytes, prefixes, bounds, encoder-streams, decoder-streams,
 #                          encoder-streams-3, decoder-streams-3 (half an hour each), sections, stateless, rooms, or all
+#   short NAME FIRST LAST  the part of such a list whose inputs have a first byte from FIRST to LAST (all of it is 0 255)
 #   lists                  the fixed lists of tests/lists that the crate has calls for; the gate replays all of them
 #   sample SEED STEPS      writes such a list: the shortest script for each call, answer and difference that a run meets
 #   differences            the names of the listed differences
@@ -21,7 +22,7 @@ while [ $# -gt 1 ]; do
     shift 2
 done
 case $build in wraps | panics) ;; *) fail "--build is wraps or panics" ;; esac
-[ $# -gt 0 ] || fail "usage: run.sh [--rust DIR] [--build wraps|panics] random SEED STEPS | short NAME | lists | sample SEED STEPS | differences | wrong"
+[ $# -gt 0 ] || fail "usage: run.sh [--rust DIR] [--build wraps|panics] random SEED STEPS | short NAME [FIRST LAST] | lists | sample SEED STEPS | differences | wrong"
 if [ ! -x "target/oracle/differ-$build" ] || [ -n "$(find tests/oracle -name '*.rs' -newer "target/oracle/differ-$build")" ]; then
     tests/oracle/build.sh "$rust" >&2
 fi
