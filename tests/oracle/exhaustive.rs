@@ -18,6 +18,7 @@ pub const LISTS: &[(&str, List)] = &[
     ("decoder-streams-3", decoder_streams_3),
     ("sections", sections),
     ("stateless", stateless),
+    ("lines", lines),
     ("rooms", rooms),
 ];
 
@@ -210,6 +211,26 @@ fn sections(p: &mut Pair) -> Result<(), Fault> {
 fn stateless(p: &mut Pair) -> Result<(), Fault> {
     p.reset()?;
     calls(p, 3, |s, out| out.push(Command::new(op::SECTION_STATELESS, 0, &[8, 100], &[s]).buffer(600, 0xaa)))
+}
+
+/// Prefixes: count 0 with base 0, 1, 2 and 300; on the table of B.2 two entries with base 2, 1 and 0; on the one after drops four with base 4, 2 and 5.
+const PREFIXES: &[&[u8]] = &[
+    b"\x00\x00", b"\x00\x01", b"\x00\x02", b"\x00\x7f\xad\x01", b"\x03\x00", b"\x03\x80", b"\x03\x81", b"\x05\x00", b"\x05\x81", b"\x05\x01",
+];
+
+/// All slices up to two bytes after each prefix.
+fn lines(p: &mut Pair) -> Result<(), Fault> {
+    tables(p)?;
+    for start in PREFIXES {
+        calls(p, 2, |s, out| {
+            let s = [start, s].concat();
+            for (o, table) in [(op::SECTION_ON, 2), (op::SECTION_ON, 3), (op::DECODE_HEADER, 3)] {
+                out.push(Command::new(o, table, &[8], &[&s]).buffer(100, 0xaa));
+            }
+            out.push(Command::new(op::SECTION_STATELESS, 0, &[8, 100], &[&s]).buffer(100, 0xaa));
+        })?;
+    }
+    Ok(())
 }
 
 /// Lines that are good on the table of B.2 or on none, that name no entry, have H set, or are cut.

@@ -2,7 +2,8 @@
 # run.sh [--rust DIR] [--build wraps|panics] WHAT: the crate and the program replay, call by call (docs/DIFFERENCES.md).
 #   random SEED STEPS      random sequences of calls; STEPS may be a number of minutes, as 5m
 #   short NAME             all short inputs of a kind: integers, bytes, prefixes, bounds, encoder-streams, decoder-streams,
-#                          encoder-streams-3, decoder-streams-3 (half an hour each), sections, stateless, rooms, or all
+#                          encoder-streams-3, decoder-streams-3 (half an hour each), sections, stateless, lines,
+#                          rooms, or all
 #   short NAME FIRST LAST  the part of such a list whose inputs have a first byte from FIRST to LAST (all of it is 0 255)
 #   lists                  the fixed lists of tests/lists that the crate has calls for; the gate replays all of them
 #   sample SEED STEPS      writes such a list: the shortest script for each call, answer and difference that a run meets
