@@ -41,13 +41,13 @@ pub mod prefix_int; pub mod prefix_string; pub mod static_; pub mod stream; pub 
 pub use self::field::HeaderField;
 R
 
-# the visibility edits: functions of the table, and the fields of its structs
+# the visibility edits: functions of the table, the fields of its structs, and the reader of a field line
 in_qpack() { local file=$1; shift; sed -i -E "$@" "$out/src/qpack/$file"; }
 in_qpack dynamic.rs 's/^    pub\(super\) fn /    pub fn /'
 in_qpack dynamic.rs "s/^    (table|base|commited|stream_id|block_refs|fields|curr_size|max_size|vas|field_map|name_map|track_map|track_blocks|largest_known_received|blocked_max|blocked_count|blocked_streams): (&'a|usize|bool|u64|HashMap|VecDeque|VirtualAddressSpace|BTreeMap)/    pub \\1: \\2/"
 in_qpack vas.rs 's/^    (inserted|dropped|delta): usize,$/    pub \1: usize,/'
 in_qpack block.rs 's/^    (encoded_insert_count|delta_base): usize,$/    pub \1: usize,/; s/^    sign_negative: bool,$/    pub sign_negative: bool,/'
-in_qpack decoder.rs 's/^    table: DynamicTable,$/    pub table: DynamicTable,/'
+in_qpack decoder.rs 's/^    table: DynamicTable,$/    pub table: DynamicTable,/; s/^    fn parse_header_field</    pub fn parse_header_field</'
 in_qpack encoder.rs 's/^    table: DynamicTable,$/    pub table: DynamicTable,/'
 
 # nothing else moved: the files are equal once every word of visibility is taken out

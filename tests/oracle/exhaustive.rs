@@ -1,6 +1,8 @@
 //! Short inputs, all of them.
+use crate::bounds::bounds;
+use crate::inputs::integer;
+use crate::leaves::laid_before;
 use crate::pair::{Fault, Pair};
-use crate::random::integer;
 use crate::script::{op, Command};
 
 type List = fn(&mut Pair) -> Result<(), Fault>;
@@ -16,6 +18,7 @@ pub const LISTS: &[(&str, List)] = &[
     ("decoder-streams-3", decoder_streams_3),
     ("sections", sections),
     ("stateless", stateless),
+    ("rooms", rooms),
 ];
 
 /// All strings of bytes up to a length, shortest first.
@@ -77,6 +80,10 @@ fn bytes(p: &mut Pair) -> Result<(), Fault> {
     for index in 0..300 {
         p.step(Command::new(op::STATIC_GET, 0, &[index], &[]))?;
     }
+    for index in 0..99 {
+        let (start, end) = (laid_before(index) as u64, laid_before(index + 1) as u64);
+        p.step(Command::new(op::STATIC_COPY, 0, &[1, start, end - start], &[]).buffer(150, 0xee))?;
+    }
     calls(p, 2, |s, out| {
         for kind in [0, 1, 4, 5, 6] {
             out.push(Command::new(op::STREAM_READ_INTEGER, 0, &[kind, 0], &[s]));
@@ -105,120 +112,6 @@ fn prefixes(p: &mut Pair) -> Result<(), Fault> {
                     }
                 }
             }
-        }
-    }
-    Ok(())
-}
-
-/// A section of some finds, committed.
-fn section_of(p: &mut Pair, stream: u64, finds: u64, largest: u64) -> Result<(), Fault> {
-    p.step(Command::new(op::BEGIN, 0, &[stream], &[]))?;
-    for k in 0..finds {
-        p.step(Command::new(op::FIND, 0, &[], &[b"x", k.to_string().as_bytes()]))?;
-    }
-    p.step(Command::new(op::COMMIT, 0, &[largest], &[]))
-}
-
-fn entries(p: &mut Pair, count: u64) -> Result<(), Fault> {
-    p.reset()?;
-    p.step(Command::new(op::SET_CAPACITY, 0, &[16_384], &[]))?;
-    p.step(Command::new(op::SET_MAX_BLOCKED, 0, &[65_534], &[]))?;
-    (0..count).try_for_each(|k| p.step(Command::new(op::PUT, 0, &[], &[b"x", k.to_string().as_bytes()])))
-}
-
-/// Every bound from both sides: entries and uses of a section, queued sections, blocked values and sections, inserts in a call, counts.
-fn bounds(p: &mut Pair) -> Result<(), Fault> {
-    // 33 entries, in finds and in inserts that refer to one more
-    entries(p, 40)?;
-    section_of(p, 1, 34, 40)?;
-    for finds in 29..33 {
-        p.step(Command::new(op::BEGIN, 0, &[2], &[]))?;
-        for k in 0..finds as u64 {
-            p.step(Command::new(op::FIND, 0, &[], &[b"x", k.to_string().as_bytes()]))?;
-        }
-        for (name, value) in [(&b"x"[..], &b"39"[..]), (b"x", b"new"), (b"y", b"new"), (b":path", b"new")] {
-            p.step(Command::new(op::INSERT, 0, &[], &[name, value]))?;
-        }
-        p.step(Command::new(op::ABANDON, 0, &[], &[]))?;
-    }
-    // 256 uses of one entry
-    p.step(Command::new(op::BEGIN, 0, &[3], &[]))?;
-    for _ in 0..257 {
-        p.step(Command::new(op::FIND, 0, &[], &[b"x", b"7"]))?;
-    }
-    p.step(Command::new(op::INSERT, 0, &[], &[b"x", b"7"]))?;
-    p.step(Command::new(op::COMMIT, 0, &[0], &[]))?;
-    // 33 sections, 65 blocked values
-    entries(p, 80)?;
-    for k in 0..34 {
-        section_of(p, k % 5, 1, 0)?;
-        p.step(Command::new(op::ABANDON, 0, &[], &[]))?;
-    }
-    entries(p, 80)?;
-    for k in 0..70 {
-        section_of(p, 9, 1, k + 1)?;
-        p.step(Command::new(op::ABANDON, 0, &[], &[]))?;
-        p.step(Command::new(op::ACKNOWLEDGE, 0, &[9], &[]))?;
-    }
-    p.step(Command::new(op::INCREMENT, 0, &[40], &[]))?;
-    section_of(p, 9, 1, 70)?;
-    many_blocked(p)?;
-    many_inserts(p)?;
-    high_counts(p)
-}
-
-/// 65,535 blocked sections, and one more.
-fn many_blocked(p: &mut Pair) -> Result<(), Fault> {
-    entries(p, 3)?;
-    let made = p.log.len();
-    for k in 0..65_537u64 {
-        p.step(Command::new(op::BEGIN, 0, &[1], &[]))?;
-        p.step(Command::new(op::COMMIT, 0, &[1 + k % 3], &[]))?;
-        p.step(Command::new(op::ABANDON, 0, &[], &[]))?;
-        p.step(Command::new(op::ACKNOWLEDGE, 0, &[1], &[]))?;
-        if p.log.len() > 100_000 {
-            p.log.truncate(made);
-        }
-    }
-    p.step(Command::new(op::INCREMENT, 0, &[2], &[]))?;
-    section_of(p, 1, 3, 3)
-}
-
-/// 254 to 257 inserts in one call, of each kind.
-fn many_inserts(p: &mut Pair) -> Result<(), Fault> {
-    for n in 254..258 {
-        for one in [&b"\x41a\x01b"[..], b"\xc1\x01b", b"\x00", b"\x80\x01c"] {
-            entries(p, 2)?;
-            let s = one.repeat(n);
-            p.step(Command::new(op::ON_ENCODER_RECV, 0, &[], &[&s]).buffer(5, 1))?;
-            let mut bad = s.clone();
-            bad.extend(b"\xff\x24\x00");
-            p.step(Command::new(op::ON_ENCODER_RECV, 0, &[], &[&bad]).buffer(5, 1))?;
-        }
-    }
-    Ok(())
-}
-
-/// Counts at 2^62-1.
-fn high_counts(p: &mut Pair) -> Result<(), Fault> {
-    for below in 0..4u64 {
-        let count = (1 << 62) - 1 - below;
-        p.reset()?;
-        for field in [0, 1, 9] {
-            p.step(Command::new(op::SET, 0, &[field, 0, count], &[]))?;
-        }
-        p.step(Command::new(op::SET_CAPACITY, 0, &[200], &[]))?;
-        p.step(Command::new(op::SET_MAX_BLOCKED, 0, &[2], &[]))?;
-        p.step(Command::new(op::PUT, 0, &[], &[b"a", b"b"]))?;
-        p.step(Command::new(op::BEGIN, 0, &[1], &[]))?;
-        for _ in 0..2 {
-            p.step(Command::new(op::INSERT, 0, &[], &[b"a", b"b"]))?;
-        }
-        p.step(Command::new(op::COMMIT, 0, &[count], &[]))?;
-        p.step(Command::new(op::ON_ENCODER_RECV, 0, &[], &[b"\x41a\x01b\x00\x00"]).buffer(3, 0))?;
-        for n in 0..5 {
-            p.step(Command::new(op::INCREMENT, 0, &[n], &[]))?;
-            p.step(Command::new(op::ON_DECODER_RECV, 0, &[], &[&[n as u8, 1]]))?;
         }
     }
     Ok(())
@@ -313,4 +206,38 @@ fn sections(p: &mut Pair) -> Result<(), Fault> {
 fn stateless(p: &mut Pair) -> Result<(), Fault> {
     p.reset()?;
     calls(p, 3, |s, out| out.push(Command::new(op::SECTION_STATELESS, 0, &[8, 100], &[s]).buffer(600, 0xaa)))
+}
+
+/// Lines that are good on the table of B.2 or on none, that name no entry, have H set, or are cut.
+const LINES: &[&[u8]] = &[
+    b"\xd1", b"\xc0", b"\xff\x24", b"\x80", b"\x81", b"\x84", b"\x10", b"\x11", b"\x50\x01a", b"\x51\x81\x1f", b"\x40\x00", b"\x00\x02bc", b"\x02\x00",
+    b"\x21a\x03xyz", b"\x20\x00", b"\x29a\x00", b"\x23a",
+];
+
+/// Sections of two lines, with every small list and buffer, on the table of B.2 and with none.
+fn rooms(p: &mut Pair) -> Result<(), Fault> {
+    tables(p)?;
+    let made = p.log.len();
+    for start in [&b"\x00\x00"[..], b"\x03\x00", b"\x03\x81", b"\x00\x02", b"\x00\x01"] {
+        for first in LINES {
+            for second in LINES {
+                let s = [start, first, second].concat();
+                p.log.truncate(made);
+                p.batch(in_rooms(&s))?;
+            }
+        }
+    }
+    Ok(())
+}
+
+/// Up to two records, and as many bytes as two fields have at the most.
+fn in_rooms(s: &[u8]) -> Vec<Command> {
+    let mut calls = Vec::new();
+    for records in 0..=2 {
+        for room in 0..=52 {
+            calls.push(Command::new(op::SECTION_ON, 2, &[records], &[s]).buffer(room, 0xaa));
+            calls.push(Command::new(op::SECTION_STATELESS, 0, &[records, 70 + room % 8], &[s]).buffer(room, 0xaa));
+        }
+    }
+    calls
 }

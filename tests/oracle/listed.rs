@@ -232,11 +232,11 @@ pub fn of_prefix(p: &Prefix, total: u64, capacity: u64) -> Option<&'static Liste
     (required == 0 && p.delta > 0).then_some(&DELTA_AT_ZERO)
 }
 
-/// Whether a post-base line stands there whose sum with a base passes 2^64-1.
+/// Whether a post-base line stands there whose sum with a base passes 2^64-1; its string is read first.
 pub fn is_post_base_past(s: &[u8], base: u64) -> bool {
     let index = match s.first() {
         Some(b) if b & 0xf0 == 0x10 => integer(s, 4),
-        Some(b) if b & 0xf0 == 0 => integer(s, 3),
+        Some(b) if b & 0xf0 == 0 => integer(s, 3).filter(|(_, at)| string(&s[*at..], 7).is_ok()),
         _ => None,
     };
     index.is_some_and(|(i, _)| base.checked_add(i).is_none())

@@ -1,7 +1,9 @@
 //! The differential runs: calls on the crate and on the program replay, compared step by step (docs/DIFFERENCES.md).
+mod bounds;
 mod calls;
 mod compare;
 mod exhaustive;
+mod inputs;
 mod leaves;
 mod listed;
 mod numbers;
@@ -10,9 +12,12 @@ mod pair;
 mod random;
 mod sample;
 mod script;
+mod sections;
 mod shrink;
+mod singles;
 mod streams;
 mod table;
+mod writers;
 
 use pair::{Fault, Pair};
 use std::time::{Duration, Instant};
@@ -101,7 +106,7 @@ fn fault(program: &str, p: &Pair, f: Fault) -> ! {
     script.iter().for_each(|c| c.write(&mut bytes));
     let file = "target/oracle/shortest.script";
     std::fs::write(file, bytes).unwrap_or_else(|e| stop(&format!("{file}: {e}")));
-    println!("  opcode {}\n  the Rust: {}\n  ours:     {}", f.command.op, f.rust, f.ours);
+    println!("  opcode {}\n  expected: {}\n  ours:     {}", f.command.op, f.expected, f.ours);
     println!("  {} commands in {file}; python3 tests/replay.py --show < {file}", script.len());
     std::process::exit(1)
 }
@@ -116,7 +121,7 @@ fn script(program: &str) {
         let (c, after) = script::Command::read(rest).unwrap_or_else(|e| stop(&e));
         rest = after;
         if let Err(f) = p.step(c) {
-            println!("step {}: the Rust: {}; ours: {}", p.steps + 1, f.rust, f.ours);
+            println!("step {}: expected: {}; ours: {}", p.steps + 1, f.expected, f.ours);
             std::process::exit(1)
         }
     }

@@ -190,6 +190,12 @@ pub fn seen(line: &str) -> Option<Seen> {
             s.queue.push(section);
         }
     }
+    s.live = live(&mut w)?;
+    Some(s)
+}
+
+/// The live strings that end a record; none where the ring does not keep its rules.
+fn live(w: &mut Words) -> Option<Vec<(Vec<u8>, Vec<u8>)>> {
     let word = w.next();
     if word == "unsound" {
         return None;
@@ -197,11 +203,12 @@ pub fn seen(line: &str) -> Option<Seen> {
     if word != "live" {
         crate::stop(&format!("show: live is wanted, and {word} stands there"));
     }
+    let mut strings = Vec::new();
     loop {
         let name = w.next();
         if name.is_empty() {
-            return Some(s);
+            return Some(strings);
         }
-        s.live.push((unhex(name), unhex(w.next())));
+        strings.push((unhex(name), unhex(w.next())));
     }
 }

@@ -4,7 +4,8 @@ use crate::leaves;
 use crate::listed::Listed;
 use crate::ours::{seen, Ours, Seen};
 use crate::script::{op, Command};
-use crate::streams;
+use crate::sections;
+use crate::streams::{self, Judged};
 use crate::table::Table;
 use std::collections::BTreeMap;
 use std::time::{Duration, Instant};
@@ -12,7 +13,8 @@ use std::time::{Duration, Instant};
 /// A difference that is on no list.
 pub struct Fault {
     pub command: Command,
-    pub rust: String,
+    /// What ours should have answered by the crate and document 01, or what the crate answers where nothing is listed.
+    pub expected: String,
     pub ours: String,
 }
 
@@ -113,11 +115,11 @@ impl Pair {
     }
 
     /// A call that leaves every table as it is.
-    fn alone(&mut self, c: &Command, ours: &str) -> Result<Option<&'static Listed>, String> {
+    fn alone(&mut self, c: &Command, ours: &str) -> Judged {
         match c.op {
             op::COPY => self.copied(c, ours),
             op::SECTION_ON => stream_call(&mut self.tables[c.table as usize], c, ours),
-            op::SECTION_STATELESS => streams::section(&mut self.tables[0], c, ours),
+            op::SECTION_STATELESS => sections::section(&mut self.tables[0], c, ours),
             _ => leaves::judge(c, ours),
         }
     }
@@ -141,17 +143,17 @@ impl Pair {
         self.settle(&c, &line, judged)
     }
 
-    fn settle(&mut self, c: &Command, ours: &str, judged: Result<Option<&'static Listed>, String>) -> Result<(), Fault> {
+    fn settle(&mut self, c: &Command, ours: &str, judged: Judged) -> Result<(), Fault> {
         match judged {
             Ok(l) => {
                 self.count(c, ours, l);
                 Ok(())
             }
-            Err(rust) => Err(Fault { command: c.clone(), rust, ours: ours.into() }),
+            Err(expected) => Err(Fault { command: c.clone(), expected, ours: ours.into() }),
         }
     }
 
-    fn judge_shown(&mut self, c: &Command, ours: &str, show: &str) -> Result<Option<&'static Listed>, String> {
+    fn judge_shown(&mut self, c: &Command, ours: &str, show: &str) -> Judged {
         match seen(show) {
             Some(after) => self.judge(c, ours, &after),
             None => Err("a record that keeps its rules".into()),
@@ -159,7 +161,7 @@ impl Pair {
     }
 
     /// A call on a table: the answers, and then the whole tables.
-    fn judge(&mut self, c: &Command, ours: &str, after: &Seen) -> Result<Option<&'static Listed>, String> {
+    fn judge(&mut self, c: &Command, ours: &str, after: &Seen) -> Judged {
         if c.op == op::COPY {
             self.copied(c, ours)?;
             return self.tables_equal(c, after, None);
@@ -174,19 +176,18 @@ impl Pair {
             match calls::call(t, c) {
                 Expect::Line(line) if line == ours => None,
                 Expect::Line(line) => return Err(line),
-                Expect::Refused(l) if number_of(ours) == l.number => Some(l),
-                Expect::Refused(l) => return Err(l.number.unwrap_or(0).to_string()),
+                Expect::Refused(l) => leaves::refused(l, c, ours)?,
             }
         };
         self.tables_equal(c, after, listed)
     }
 
-    fn copied(&mut self, c: &Command, ours: &str) -> Result<Option<&'static Listed>, String> {
+    fn copied(&mut self, c: &Command, ours: &str) -> Judged {
         self.tables[c.table as usize] = self.tables[c.numbers[0] as usize].clone();
         if ours == "0" { Ok(None) } else { Err("0".into()) }
     }
 
-    fn tables_equal(&self, c: &Command, after: &Seen, l: Option<&'static Listed>) -> Result<Option<&'static Listed>, String> {
+    fn tables_equal(&self, c: &Command, after: &Seen, l: Option<&'static Listed>) -> Judged {
         match self.tables[c.table as usize].differs(after) {
             None => Ok(l),
             Some(what) => Err(format!("the same answer and another table: {what}")),
@@ -194,7 +195,7 @@ impl Pair {
     }
 
     /// Sets a count of both tables, so that large counts are met: the fields that both sides have.
-    fn set(&mut self, c: &Command, ours: &str) -> Result<Option<&'static Listed>, String> {
+    fn set(&mut self, c: &Command, ours: &str) -> Judged {
         let r = &mut self.tables[c.table as usize].rust;
         let value = c.numbers[2] as usize;
         match c.numbers[0] {
@@ -207,17 +208,23 @@ impl Pair {
     }
 }
 
-fn number_of(line: &str) -> Option<u32> {
-    line.split(' ').next().and_then(|w| w.parse().ok())
+/// A call that is refused before it reads anything, as replay writes it.
+fn refused_line(t: &Table, c: &Command, number: u32) -> String {
+    match c.op {
+        op::ON_ENCODER_RECV => streams::refused_line(number, t, c),
+        op::ON_DECODER_RECV => format!("{number} 0"),
+        _ => sections::refused_line(number, c),
+    }
 }
 
-fn stream_call(t: &mut Table, c: &Command, ours: &str) -> Result<Option<&'static Listed>, String> {
+fn stream_call(t: &mut Table, c: &Command, ours: &str) -> Judged {
     if let Some(l) = crate::listed::before(t, c) {
-        return if number_of(ours) == l.number { Ok(Some(l)) } else { Err(l.number.unwrap_or(0).to_string()) };
+        let line = refused_line(t, c, l.number.unwrap());
+        return if line == ours { Ok(Some(l)) } else { Err(line) };
     }
     match c.op {
         op::ON_ENCODER_RECV => streams::on_encoder(t, c, ours),
         op::ON_DECODER_RECV => streams::on_decoder(t, c, ours),
-        _ => streams::section(t, c, ours),
+        _ => sections::section(t, c, ours),
     }
 }

@@ -1,8 +1,8 @@
 //! Random sequences of calls, chosen by what the table holds.
+use crate::inputs::*;
 use crate::pair::{Fault, Pair};
 use crate::script::{op, Command, WHOLE_ARENA};
 use crate::table::Table;
-use h3::qpack::prefix_int;
 
 /// xorshift64*
 pub struct Random(u64);
@@ -32,15 +32,12 @@ impl Random {
     }
 }
 
-const NAMES: &[&[u8]] = &[b":path", b":authority", b"cookie", b"x", b"custom-key", b"", b"accept", b"n1", b"n2", b"n3", b"age"];
-const VALUES: &[&[u8]] = &[b"", b"/", b"0", b"a", b"b", b"custom-value", b"www.example.com", b"gzip, deflate, br"];
-
 /// A kind of episode: how large the table is, how long its strings are, how long a section stays open, and how seldom a report comes.
 pub struct Mood {
-    capacity: u64,
-    longest: u64,
+    pub capacity: u64,
+    pub longest: u64,
     most: u64,
-    streams: u64,
+    pub streams: u64,
     open: u64,
     silence: u64,
 }
@@ -54,126 +51,6 @@ fn mood(r: &mut Random) -> Mood {
         open: *r.pick(&[1, 1, 4, 60]),
         silence: *r.pick(&[1, 1, 1, 30]),
     }
-}
-
-fn text(r: &mut Random, m: &Mood, of: &[&[u8]]) -> Vec<u8> {
-    if r.below(4) > 0 {
-        return r.pick(of).to_vec();
-    }
-    let len = r.below(m.longest + 1);
-    let b = r.below(4) as u8 + b'p';
-    vec![b; len as usize]
-}
-
-pub fn integer(width: u8, flags: u8, value: u64) -> Vec<u8> {
-    let mut out = Vec::new();
-    prefix_int::encode(width, flags, value, &mut out);
-    out
-}
-
-fn string(width: u8, flags: u8, s: &[u8], h: bool) -> Vec<u8> {
-    let mut out = integer(width, flags << 1 | h as u8, s.len() as u64);
-    out.extend(s);
-    out
-}
-
-/// A number around something that matters.
-fn odd(r: &mut Random) -> u64 {
-    let edge = *r.pick(&[0, 1, 31, 32, 63, 64, 65, 99, 127, 128, 255, 256, 16_384, 16_385, 65_535, 1 << 30, 1 << 62, 1 << 63, u64::MAX]);
-    edge.wrapping_add(r.below(3)).wrapping_sub(1)
-}
-
-/// An index that is mostly good.
-fn index(r: &mut Random, live: u64) -> u64 {
-    if r.one_in(12) { odd(r) >> 1 } else { r.below(live + 1) }
-}
-
-fn live(t: &Table) -> u64 {
-    t.rust.fields.len() as u64
-}
-
-fn instruction(r: &mut Random, m: &Mood, t: &Table) -> Vec<u8> {
-    let h = r.one_in(40);
-    match r.below(8) {
-        0 | 1 => {
-            let mut b = string(5, 1, &text(r, m, NAMES), h);
-            b.extend(string(7, 0, &text(r, m, VALUES), r.one_in(40)));
-            b
-        }
-        2 | 3 => {
-            let fixed = r.one_in(2);
-            let i = if fixed { r.below(102) } else { index(r, live(t)) };
-            let mut b = integer(6, 2 | fixed as u8, i);
-            b.extend(string(7, 0, &text(r, m, VALUES), h));
-            b
-        }
-        4..=6 => integer(5, 0, index(r, live(t))),
-        _ => {
-            let c = if r.one_in(6) { odd(r) >> 1 } else { r.below(m.capacity + 20) };
-            integer(5, 1, if r.one_in(3) { m.capacity } else { c })
-        }
-    }
-}
-
-/// A report, mostly of a stream that has a section queued.
-fn report(r: &mut Random, m: &Mood) -> Vec<u8> {
-    let stream = if r.one_in(20) { odd(r) >> 1 } else { r.below(m.streams) };
-    match r.below(8) {
-        0..=3 => integer(7, 1, stream),
-        4 => integer(6, 1, stream),
-        _ => integer(6, 0, if r.one_in(10) { odd(r) >> 2 } else { r.below(5) }),
-    }
-}
-
-fn line(r: &mut Random, m: &Mood, t: &Table) -> Vec<u8> {
-    let h = r.one_in(60);
-    let value = string(7, 0, &text(r, m, VALUES), h);
-    let n = r.below(2) as u8;
-    let mut b = match r.below(8) {
-        0 => return integer(6, 3, r.below(100)),
-        1 | 2 => return integer(6, 2, index(r, live(t))),
-        3 => return integer(4, 1, index(r, live(t))),
-        4 => integer(4, 4 | n << 1 | 1, r.below(100)),
-        5 => integer(4, 4 | n << 1, index(r, live(t))),
-        6 => integer(3, n, index(r, live(t))),
-        _ => string(3, 2 | n, &text(r, m, NAMES), r.one_in(60)),
-    };
-    b.extend(value);
-    b
-}
-
-fn prefix(r: &mut Random, t: &Table) -> Vec<u8> {
-    let (total, entries) = (t.rust.vas.inserted as u64, t.rust.max_size as u64 / 32);
-    let required = if r.one_in(10) { odd(r) >> 1 } else { total.saturating_sub(r.below(4)) };
-    let count = if required == 0 || entries == 0 { r.below(2) * r.below(3) } else { required % (2 * entries) + 1 };
-    let sign = r.one_in(3);
-    let delta = if r.one_in(30) { odd(r) >> 1 } else { r.below(4) };
-    let mut b = integer(8, 0, if r.one_in(30) { odd(r) >> 1 } else { count });
-    b.extend(integer(7, sign as u8, delta));
-    b
-}
-
-/// Cuts, flips or repeats some bytes.
-fn damage(r: &mut Random, s: &mut Vec<u8>) {
-    if s.is_empty() {
-        return;
-    }
-    let at = r.below(s.len() as u64) as usize;
-    match r.below(4) {
-        0 => s.truncate(at),
-        1 => s[at] ^= 1 << r.below(8),
-        2 => s[at] = r.next() as u8,
-        _ => s.insert(at, r.next() as u8),
-    }
-}
-
-fn several(r: &mut Random, most: u64, mut one: impl FnMut(&mut Random) -> Vec<u8>) -> Vec<u8> {
-    let n = r.below(most) + 1;
-    let mut s: Vec<u8> = (0..n).flat_map(|_| one(r)).take(60_000).collect();
-    if r.one_in(6) {
-        damage(r, &mut s);
-    }
-    s
 }
 
 /// A call while no section is open.
@@ -235,66 +112,91 @@ fn open(r: &mut Random, m: &Mood, t: &Table) -> Command {
     }
 }
 
-/// A call without a table.
-fn alone(r: &mut Random, m: &Mood, t: &Table) -> Command {
+/// What a call without a table is made of.
+struct Parts {
+    value: u64,
+    width: u64,
+    flags: u64,
+    at: u64,
+    bytes: Vec<u8>,
+    name: Vec<u8>,
+    text: Vec<u8>,
+    room: u64,
+    fill: u8,
+    kind: u64,
+    reference: u64,
+    inserted: u64,
+    dropped: u64,
+    small: u64,
+}
+
+fn parts(r: &mut Random, m: &Mood, t: &Table) -> Parts {
     let value = if r.one_in(2) { odd(r) } else { r.next() >> r.below(64) };
     let (width, flags) = (r.below(10), r.below(9));
     let at = r.below(3);
-    let mut s = vec![r.next() as u8; at as usize];
+    let mut bytes = vec![r.next() as u8; at as usize];
     match r.below(6) {
-        0 => s.extend(integer(1 + r.below(8) as u8, 0, value)),
-        1 => s.extend(instruction(r, m, t)),
-        2 => s.extend(line(r, m, t)),
-        3 => s.extend(report(r, m)),
-        4 => s.extend((0..r.below(12)).map(|_| r.next() as u8 | 0x80)),
-        _ => s.extend((0..r.below(12)).map(|_| r.next() as u8)),
+        0 => bytes.extend(integer(1 + r.below(8) as u8, 0, value)),
+        1 => bytes.extend(instruction(r, m, t)),
+        2 => bytes.extend(line(r, m, t)),
+        3 => bytes.extend(report(r, m)),
+        4 => bytes.extend((0..r.below(12)).map(|_| r.next() as u8 | 0x80)),
+        _ => bytes.extend((0..r.below(12)).map(|_| r.next() as u8)),
     }
     if r.one_in(8) {
-        damage(r, &mut s);
-        s.resize(s.len().max(at as usize), 0);
+        damage(r, &mut bytes);
+        bytes.resize(bytes.len().max(at as usize), 0);
     }
     let (name, text) = (text(r, m, NAMES), text(r, m, VALUES));
     let (room, fill) = (*r.pick(&[0, 3, 12, 40, 9000]), r.next() as u8);
     let (kind, reference) = (*r.pick(&[0, 1, 4, 5, 6]), r.below(3));
-    let total = r.below(40);
-    let (i, d) = (total, r.below(total + 1));
+    let inserted = r.below(40);
+    let dropped = r.below(inserted + 1);
     let small = if r.one_in(10) { odd(r) } else { r.below(50) };
+    Parts { value, width, flags, at, bytes, name, text, room, fill, kind, reference, inserted, dropped, small }
+}
+
+/// A call without a table.
+fn alone(r: &mut Random, m: &Mood, t: &Table) -> Command {
+    let p = parts(r, m, t);
+    let Parts { value, width, flags, at, room, fill, kind, reference, inserted: i, dropped: d, small, .. } = p;
+    let (s, name, text) = (&p.bytes[..], &p.name[..], &p.text[..]);
     match r.below(25) {
-        0 => Command::new(op::INT_READ, 0, &[at, width], &[&s]),
+        0 => Command::new(op::INT_READ, 0, &[at, width], &[s]),
         1 => Command::new(op::INT_SIZE, 0, &[value, width], &[]),
         2 => Command::new(op::INT_WRITE, 0, &[at, width, flags, value], &[]).buffer(room, fill),
-        3 => Command::new(op::TEXT_READ, 0, &[at, width], &[&s]),
-        4 => Command::new(op::TEXT_WRITE, 0, &[at, width, flags], &[&text]).buffer(room, fill),
+        3 => Command::new(op::TEXT_READ, 0, &[at, width], &[s]),
+        4 => Command::new(op::TEXT_WRITE, 0, &[at, width, flags], &[text]).buffer(room, fill),
         5 => Command::new(op::STATIC_GET, 0, &[small.wrapping_mul(2)], &[]),
-        6 => Command::new(op::STATIC_FIND, 0, &[], &[&name, &text]),
-        7 => Command::new(op::STATIC_FIND_NAME, 0, &[], &[&name]),
+        6 => Command::new(op::STATIC_FIND, 0, &[], &[name, text]),
+        7 => Command::new(op::STATIC_FIND_NAME, 0, &[], &[name]),
         8 => Command::new(op::VAS_RELATIVE, 0, &[i, d, small], &[]),
         9 => Command::new(op::VAS_RELATIVE_BASE, 0, &[i, d, r.below(50), small], &[]),
         10 => Command::new(op::VAS_POST_BASE, 0, &[i, d, r.below(50), small], &[]),
         11 => Command::new(op::VAS_INDEX, 0, &[i, d, small], &[]),
         12 => Command::new(op::VAS_LARGEST_REF, 0, &[i, d], &[]),
-        13 => Command::new(op::STREAM_READ_INTEGER, 0, &[kind, at], &[&s]),
-        14 => Command::new(op::STREAM_READ_NAME_REF, 0, &[at], &[&s]),
-        15 => Command::new(op::STREAM_READ_LITERAL, 0, &[at], &[&s]),
+        13 => Command::new(op::STREAM_READ_INTEGER, 0, &[kind, at], &[s]),
+        14 => Command::new(op::STREAM_READ_NAME_REF, 0, &[at], &[s]),
+        15 => Command::new(op::STREAM_READ_LITERAL, 0, &[at], &[s]),
         // the crate's increment holds a byte
         16 => Command::new(op::STREAM_WRITE_INTEGER, 0, &[kind, at, if kind == 4 { value % 256 } else { value }], &[]).buffer(room, fill),
-        17 => Command::new(op::STREAM_WRITE_NAME_REF, 0, &[at, r.below(2), value], &[&text]).buffer(room, fill),
-        18 => Command::new(op::STREAM_WRITE_LITERAL, 0, &[at], &[&name, &text]).buffer(room, fill),
-        19 => Command::new(op::BLOCK_READ_LINE, 0, &[at], &[&s]),
+        17 => Command::new(op::STREAM_WRITE_NAME_REF, 0, &[at, r.below(2), value], &[text]).buffer(room, fill),
+        18 => Command::new(op::STREAM_WRITE_LITERAL, 0, &[at], &[name, text]).buffer(room, fill),
+        19 => Command::new(op::BLOCK_READ_LINE, 0, &[at], &[s]),
         20 => Command::new(op::BLOCK_WRITE_INDEXED, 0, &[reference, at, value], &[]).buffer(room, fill),
-        21 => Command::new(op::BLOCK_WRITE_NAMED, 0, &[reference, at, value], &[&text]).buffer(room, fill),
-        22 => Command::new(op::BLOCK_WRITE_LITERAL, 0, &[at], &[&name, &text]).buffer(room, fill),
-        23 => {
-            let mut s = prefix(r, t);
-            s.extend(several(r, 6, |r| line(r, m, t)));
-            let max = if r.one_in(3) { r.below(400) } else { u64::MAX >> 1 };
-            Command::new(op::SECTION_STATELESS, 0, &[if r.one_in(10) { r.below(4) } else { 1000 }, max], &[&s]).buffer(9000, fill)
-        }
-        _ => {
-            let p = prefix(r, t);
-            Command::new(op::READ_PREFIX, 0, &[0, t.rust.vas.inserted as u64, t.rust.max_size as u64], &[&p])
-        }
+        21 => Command::new(op::BLOCK_WRITE_NAMED, 0, &[reference, at, value], &[text]).buffer(room, fill),
+        22 => Command::new(op::BLOCK_WRITE_LITERAL, 0, &[at], &[name, text]).buffer(room, fill),
+        23 => stateless(r, m, t, fill),
+        _ => Command::new(op::READ_PREFIX, 0, &[0, t.rust.vas.inserted as u64, t.rust.max_size as u64], &[&prefix(r, t)]),
     }
+}
+
+fn stateless(r: &mut Random, m: &Mood, t: &Table, fill: u8) -> Command {
+    let mut s = prefix(r, t);
+    s.extend(several(r, 6, |r| line(r, m, t)));
+    let max = if r.one_in(3) { r.below(400) } else { u64::MAX >> 1 };
+    let records = if r.one_in(10) { r.below(4) } else { 1000 };
+    Command::new(op::SECTION_STATELESS, 0, &[records, max], &[&s]).buffer(9000, fill)
 }
 
 /// The counts of a fresh table set high, on both sides.

@@ -64,6 +64,26 @@ impl Table {
         answer
     }
 
+    /// Whether another table is the same in everything that the crate keeps.
+    pub fn is_same(&self, other: &Table) -> bool {
+        let (a, b) = (&self.rust, &other.rust);
+        let numbers = |t: &DynamicTable| {
+            [t.vas.inserted, t.vas.dropped, t.vas.delta, t.curr_size, t.max_size, t.largest_known_received, t.blocked_max, t.blocked_count]
+        };
+        numbers(a) == numbers(b)
+            && a.fields == b.fields
+            && a.field_map == b.field_map
+            && a.name_map == b.name_map
+            && a.track_map == b.track_map
+            && a.track_blocks == b.track_blocks
+            && a.blocked_streams == b.blocked_streams
+    }
+
+    /// How many sections of a stream are queued.
+    pub fn queued_on(&self, stream: u64) -> usize {
+        self.rust.track_blocks.get(&stream).map_or(0, |q| q.len())
+    }
+
     /// How many sections are queued.
     pub fn queued(&self) -> usize {
         self.rust.track_blocks.values().map(|q| q.len()).sum()
