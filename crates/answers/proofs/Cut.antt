@@ -1,7 +1,7 @@
 -- What a reader of a single instruction answers, from what its parts found: the value, cut, or a refusal. Assumes nothing.
 use mathlib.Core.Path.{_≡_}
 use mathlib.Core.Bool.{true, false}
-use mathlib.Core.Option.{Option, some, none}
+use mathlib.Core.Option.{some, none}
 use Rattle.answers.specs.Answer.{Answer, done, refused, andThen, endsEarly, cutShort}
 use Rattle.answers.specs.declared.Refusal.{Refusal}
 

@@ -1,5 +1,5 @@
 -- Laws of writers: how each of the three outcomes meets `Writes`, and what stands in the buffer after a write. Assumes nothing.
-use mathlib.Core.Path.{_≡_, refl, sym, ap, _∙_}
+use mathlib.Core.Path.{_≡_, refl, sym, _∙_}
 use mathlib.Core.Bool.{Bool, true, false, cond}
 use mathlib.Core.List.{List, [], _∷_, _++_, append-assoc}
 use Prim.Native.Nat.{ℕ, suc, _+_, _≤_, _<_}
@@ -10,7 +10,7 @@ use lib.ListN.{length, take, drop, set}
 use lib.Seq.{sets, sets-eq, length-take-le, drop-at}
 use borrow.Author.Tests.{le-leb, lt-leb, leb-true}
 use Rattle.answers.specs.Answer.{Answer, done, refused, andThen}
-use Rattle.answers.specs.Write.{written, fitted, placed, left, Writes}
+use Rattle.answers.specs.Write.{written, fitted, placed, Writes}
 use Rattle.answers.specs.declared.Refusal.{Refusal}
 use Rattle.answers.specs.declared.Refusal.the-variants.{OutputFull}
 use Rattle.answers.specs.declared.Written.{Written}

@@ -4,8 +4,8 @@ use mathlib.Core.List.{List, _∷_, _++_}
 use Prim.Native.Nat.{ℕ, zero, suc, _+_, _<_}
 use native.Mathlib.Nat.{zero-add, suc-add}
 use native.Mathlib.Omega.{arith}
-use lib.ListN.{length, getD, take, drop}
-use lib.Seq.{take-at, drop-at}
+use lib.ListN.{length, getD, drop}
+use lib.Seq.{drop-at}
 use Rattle.arena.specs.Tab.{tab}
 
 module _ {A : Type 0} where
@@ -31,9 +31,6 @@ module _ {A : Type 0} where
       let g : ℕ → A = λ (i : ℕ). f (suc i) in
       let shift : tab n (λ (i : ℕ). g (m + i)) ≡ tab n (λ (i : ℕ). f (suc m + i)) = tab-ext n _ _ (λ i l. ap f (sym (suc-add m i))) in
       rw suc-add (ap (λ (l : List A). f zero ∷ l) (tab-add m n g ∙ ap (λ (l : List A). tab m g ++ l) shift))
-
-  pub take-tab : (k n : ℕ) (f : ℕ → A) → take k (tab (k + n) f) ≡ tab k f
-  take-tab k n f = rw tab-add (take-at (tab k f) _ k (length-tab k f))
 
   pub drop-tab : (k n : ℕ) (f : ℕ → A) → drop k (tab (k + n) f) ≡ tab n (λ (i : ℕ). f (k + i))
   drop-tab k n f = rw tab-add (drop-at (tab k f) _ k (length-tab k f))

@@ -1,13 +1,12 @@
 -- The line at a position is the one of its first byte's kind. Assumes nothing.
-use mathlib.Core.Path.{_≡_, sym, ap, _∙_}
+use mathlib.Core.Path.{_≡_, sym, _∙_}
 use mathlib.Core.List.{List}
 use Prim.Native.Nat.{ℕ, _<_}
 use lib.ListN.{length, getD}
 use borrow.Author.Tests.{lt-leb}
-use Rattle.answers.specs.Answer.{Answer}
 use Rattle.forms.specs.Forms.{lineKind}
 use Rattle.forms.specs.declared.HeaderBlockField.{HeaderBlockField}
-use Rattle.block.specs.Lines.{FieldLine, lineOf, lineAt}
+use Rattle.block.specs.Lines.{lineOf, lineAt}
 
 pub line-by-kind : (s : List ℕ) (at : ℕ) (k k′ : HeaderBlockField) → at < length s → k′ ≡ lineKind (getD s at 0) → k′ ≡ k
     → lineOf s at k ≡ lineAt s at

@@ -21,7 +21,7 @@ use Rattle.forms.specs.declared.Kind.the-variants.{Line}
 use Rattle.prefix_int.specs.Integer.{intAt}
 use Rattle.prefix_int.proofs.Bounds.{found}
 use Rattle.prefix_int.proofs.RoundTrip.{round-trip}
-use Rattle.shapes.specs.Shapes.{textAfter, textsAt}
+use Rattle.shapes.specs.Shapes.{textAfter}
 use Rattle.shapes.proofs.Bounds.{found-int-text, found-texts}
 use Rattle.shapes.proofs.RoundTrip.{int-text-round-trip, texts-round-trip}
 use Rattle.block.specs.Lines.{

@@ -1,8 +1,7 @@
 // The blocked sections, by their largest reference.
 ghost use mathlib.Core.Path.{_≡_};
 ghost use mathlib.Core.Bool.{true};
-ghost use Prim.Native.Nat.{_<_, _≤_, min};
-ghost use lib.ListN.{take};
+ghost use Prim.Native.Nat.{_<_, _≤_};
 ghost use Rattle.model.specs.Bounds.{blockedValues, blockedSections};
 ghost use Rattle.blocked.specs.Waiting.{valueAt, valuesOf, keepsCount, blocking, letGo};
 use model::BLOCKED_SECTIONS;

@@ -4,7 +4,7 @@ use mathlib.Core.List.{List, [], _∷_}
 use mathlib.Core.Option.{some}
 use Prim.Native.Nat.{ℕ}
 use lib.ListN.{length}
-use Rattle.answers.specs.Answer.{Answer, done, refused}
+use Rattle.answers.specs.Answer.{done, refused}
 use Rattle.answers.specs.declared.Refusal.{Refusal}
 use Rattle.answers.specs.declared.Refusal.the-variants.{Overflow, BadPostbaseIndex}
 use Rattle.forms.specs.declared.DecoderInstruction.the-variants.{InsertCountIncrement}

@@ -1,7 +1,7 @@
 // A call on the decoder stream, RFC 9204 4.4: the peer's reports, read and applied in their order.
 ghost use mathlib.Core.Path.{_≡_};
 ghost use mathlib.Core.Bool.{true, false};
-ghost use Prim.Native.Nat.{_+_, _≤_, _<_};
+ghost use Prim.Native.Nat.{_+_, _<_};
 ghost use Rattle.dynamic.specs.Record.{sound};
 ghost use Rattle.running.specs.Run.{runAll};
 ghost use Rattle.decoder_stream.specs.Reports.{reportAt, reportRead, takes, reported, Receives};

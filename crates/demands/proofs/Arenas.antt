@@ -1,7 +1,7 @@
 -- What a call answers and makes of a record depends on the arena through its length and its live strings alone. Assumes nothing.
 use mathlib.Core.Path.{_≡_, refl, sym, ap, _∙_}
 use mathlib.Core.Bool.{Bool, true, false, cond}
-use mathlib.Core.List.{List, [], _∷_, map}
+use mathlib.Core.List.{List, map}
 use Prim.Native.Nat.{ℕ, zero, suc, _+_, _-_, _≤_}
 use native.Mathlib.Omega.{arith}
 use lib.Dec.{leb}
@@ -27,6 +27,7 @@ use Rattle.ring.specs.declared.Pushed.{Pushed}
 use Rattle.ring.specs.declared.Ring.{Ring}
 use Rattle.ring.specs.declared.Source.{Source}
 use Rattle.ring.specs.declared.Source.the-variants.{Given}
+use Rattle.ring.proofs.Growing.{map-drop}
 use Rattle.ring.proofs.Sources.{name-length, value-length}
 use Rattle.ring.proofs.Walked.{bounds}
 
@@ -47,12 +48,6 @@ same-push r a b low s n v long =
     (name-length r a s n v ∙ sym (name-length r b s n v)) (value-length r a s n v ∙ sym (value-length r b s n v))))
 
 -- ---- the entries that are left once the oldest went
-
-map-drop : {A B : Type 0} (f : A → B) (k : ℕ) (l : List A) → map f (drop k l) ≡ drop k (map f l)
-map-drop f zero [] = refl
-map-drop f zero (x ∷ l) = refl
-map-drop f (suc k) [] = refl
-map-drop f (suc k) (x ∷ l) = map-drop f k l
 
 module _ (r : Ring) (a b : List ℕ) (same : fieldsOf r a ≡ fieldsOf r b) where
   abbrev left : ℕ → List ℕ → List Field

@@ -1,5 +1,4 @@
 -- The model knows no 22: none of its calls answers it, nor an instruction, nor a run of them. Assumes nothing.
-use mathlib.Core.Path.{_≡_}
 use mathlib.Core.Bool.{Bool, true, false, cond}
 use mathlib.Core.List.{List}
 use mathlib.Core.Option.{Option, some, none}

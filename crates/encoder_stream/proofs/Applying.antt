@@ -1,5 +1,5 @@
 -- What the code does to the entries for one instruction, case by case. Assumes nothing.
-use mathlib.Core.Path.{_≡_, refl}
+use mathlib.Core.Path.{_≡_}
 use mathlib.Core.Bool.{Bool, true, false}
 use mathlib.Core.List.{List, []}
 use mathlib.Core.Option.{some, none}
@@ -11,7 +11,7 @@ use Rattle.answers.specs.declared.Refusal.{Refusal}
 use Rattle.answers.specs.declared.Refusal.the-variants.{ShrinkBlocked}
 use Rattle.answers.specs.declared.Reply.{Reply}
 use Rattle.dynamic.specs.Calls.{capacityAnswer, pushReply}
-use Rattle.instructions.specs.Instruction.{duplicate, capacity, literal, nameRef, stretch, parsed, Inside}
+use Rattle.instructions.specs.Instruction.{duplicate, capacity, nameRef, stretch, parsed, Inside}
 use Rattle.instructions.specs.declared.Parsed.{Parsed}
 use Rattle.ring.specs.Ring.{Pushes, cutting}
 use Rattle.ring.specs.declared.Cut.{Cut}
@@ -53,10 +53,6 @@ module _ (low : ℕ) (r : Ring) (a : List ℕ) where
       → pushed low x (NameOf p) [] v ≡ applied low x (nameRef false i v)
   unfolding applied
   named-pushed i v p h = rw h
-
-  pub literal-pushed : (n v : List ℕ) → pushed low x Given n v ≡ applied low x (literal n v)
-  unfolding applied
-  literal-pushed n v = refl
 
   -- a name of the static table
   pub static-unnamed : (i : ℕ) (v : List ℕ) (w : Refusal) → staticName i ≡ refused w → kept x w ≡ applied low x (nameRef true i v)

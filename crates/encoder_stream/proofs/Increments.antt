@@ -1,13 +1,13 @@
 -- The increment that a call writes: when there is none, when it is too large, and that three bytes hold it. Assumes nothing.
-use mathlib.Core.Path.{_≡_, refl, sym, ap, _∙_}
+use mathlib.Core.Path.{_≡_, refl, _∙_}
 use mathlib.Core.Bool.{Bool, true, false, cond}
-use mathlib.Core.List.{List, [], _∷_, _++_}
+use mathlib.Core.List.{List, [], _∷_}
 use Prim.Native.Nat.{ℕ, _+_, _-_, _/_, _%_, _≤_, _<_}
 use native.Mathlib.Omega.{arith}
 use lib.Dec.{leb, ltb, eqb}
 use lib.ListN.{length}
 use lib.Seq.{sets}
-use borrow.Author.Tests.{le-leb, lt-leb, eq-eqb, ne-eqb, lt-ltb, le-ltb}
+use borrow.Author.Tests.{le-leb, lt-leb, ne-eqb, lt-ltb}
 use Rattle.answers.specs.Answer.{Answer, done, refused}
 use Rattle.answers.specs.Table.{replied}
 use Rattle.answers.specs.Write.{Writes, written}
@@ -21,7 +21,7 @@ use Rattle.forms.specs.declared.DecoderInstruction.the-variants.{InsertCountInc
 use Rattle.forms.specs.declared.Kind.the-variants.{Decoder}
 use Rattle.prefix_int.specs.Integer.{encode, spell}
 use Rattle.stream.specs.Instructions.{integerBytes}
-use Rattle.encoder_stream.specs.Stream.{mostInserts, incrementRoom, incrementBytes, Told, incremented, Tells, told}
+use Rattle.encoder_stream.specs.Stream.{mostInserts, incrementRoom, incrementBytes, incremented, Tells, told}
 use Rattle.encoder_stream.specs.declared.Finished.{Finished}
 use Rattle.encoder_stream.proofs.Front.{sets-front}
 

@@ -3,7 +3,7 @@ use mathlib.Core.Path.{_≡_, refl, sym, ap, subst, _∙_}
 use mathlib.Core.Bool.{Bool, true, false, cond}
 use mathlib.Core.List.{List, [], _∷_, map}
 use mathlib.Core.Option.{Option, some, none}
-use Prim.Native.Nat.{ℕ, zero, suc, _+_, _-_, _≤_, _<_}
+use Prim.Native.Nat.{ℕ, zero, suc, _-_, _<_}
 use native.Mathlib.Omega.{arith}
 use lib.ListN.{length, getD}
 use borrow.Author.Tests.{lt-ltb}
@@ -22,16 +22,14 @@ use Rattle.dynamic.proofs.Setting.{sets-capacity, capacity-refused, capacity-bl
 use Rattle.dynamic.proofs.Sound.{facts}
 use Rattle.entries.specs.Entry.{noEntry, fieldOf}
 use Rattle.entries.proofs.Chain.{and-left, and-right}
-use Rattle.field.specs.Field.{Field}
 use Rattle.instructions.specs.Instruction.{Instruction, duplicate, capacity, literal, nameRef}
 use Rattle.model.specs.Drop as model-table
 use Rattle.model.specs.Table as model
-use Rattle.ring.specs.Ring.{live, fieldsOf, entryIn, fieldFrom, sourceLive, pushing, bytesAfter, placedBytes, cutting, Pushes}
+use Rattle.ring.specs.Ring.{live, entryIn, fieldFrom, sourceLive, pushing, bytesAfter, placedBytes, cutting, Pushes}
 use Rattle.ring.specs.declared.Cut.{Cut}
 use Rattle.ring.specs.declared.Ring.{Ring}
 use Rattle.ring.specs.declared.Source.{Source}
 use Rattle.ring.specs.declared.Source.the-variants.{Given, NameOf, CopyOf}
-use Rattle.ring.proofs.Cutting.{cut-made, cut-stays}
 use Rattle.ring.proofs.Keeping.{Arrays, kept, count-fields, length-live}
 use Rattle.ring.proofs.Pushing.{Usable}
 use Rattle.running.specs.Run.{Took}
@@ -39,7 +37,7 @@ use Rattle.running.proofs.Run.{Shows}
 use Rattle.static_table.specs.Static.{noField}
 use Rattle.vas.specs.Vas.{relativeAt}
 use Rattle.vas.proofs.Positions.{named-below}
-use Rattle.encoder_stream.specs.Entries.{staticName, kept as stays, naming, Held, holding, pushed, cutBy, cutUnless, positionIn, applied}
+use Rattle.encoder_stream.specs.Entries.{staticName, kept as stays, naming, Held, holding, pushed, cutUnless, positionIn, applied}
 use Rattle.encoder_stream.specs.Entries.{tookIn, entryIn as entryNamed, putIn, fieldIn, appliedIn}
 use Rattle.encoder_stream.proofs.Sources.{as-given, arrays-kept, arrays-cut}
 

@@ -1,11 +1,10 @@
 -- The promise of a call on the encoder stream, from what its parts do. Assumes nothing.
 use mathlib.Core.Path.{_≡_, refl, sym, ap, _∙_}
-use mathlib.Core.Bool.{Bool, true, false, _&&_, cond}
+use mathlib.Core.Bool.{true, false}
 use mathlib.Core.List.{List}
 use mathlib.Core.Option.{Option}
 use Prim.Native.Nat.{ℕ, _-_, _≤_, _<_}
 use native.Mathlib.Omega.{arith}
-use lib.Dec.{leb}
 use lib.ListN.{length}
 use borrow.Author.Tests.{le-leb, lt-leb}
 use Rattle.answers.specs.Answer.{refused}
@@ -26,7 +25,7 @@ use Rattle.encoder_stream.specs.declared.Finished.{Finished}
 use Rattle.encoder_stream.specs.declared.Ran.{Ran}
 use Rattle.encoder_stream.specs.declared.Received.{Received}
 use Rattle.encoder_stream.specs.Entries.{Held, applied, appliedIn}
-use Rattle.encoder_stream.specs.Stream.{incrementRoom, Told, told, Tells, Streamed, streamed, insertedIn, heldBy, ranTo}
+use Rattle.encoder_stream.specs.Stream.{incrementRoom, told, Tells, Streamed, streamed, insertedIn, heldBy, ranTo}
 use Rattle.encoder_stream.specs.Stream.{receiving, received, receivedIn, seenIn, Receives}
 use Rattle.encoder_stream.proofs.Modelled.{viewed, Good, shows, counted, counted-in}
 

@@ -1,14 +1,13 @@
 -- An insert from a live entry is a put of the field that it stands for. Assumes nothing.
-use mathlib.Core.Path.{_≡_, refl, sym, ap, _∙_}
+use mathlib.Core.Path.{_≡_, refl, sym, _∙_}
 use mathlib.Core.Bool.{Bool, true, false, cond}
-use mathlib.Core.List.{List, _++_}
+use mathlib.Core.List.{List}
 use Prim.Native.Nat.{ℕ, _-_, _%_}
 use lib.Dec.{ltb}
 use lib.ListN.{length, length-set}
-use Rattle.arena.specs.Ring.{ringWrite}
 use Rattle.entries.specs.Entry.{slots}
 use Rattle.field.specs.Field.{Field, sizeOf}
-use Rattle.ring.specs.Ring.{largestCount, keeps, roomIn, fieldFrom, sourceLive, pushable, pushedBy, pushed, pushing, bytesAfter, placedBytes, making, Pushes, cutBy, cutting}
+use Rattle.ring.specs.Ring.{largestCount, roomIn, fieldFrom, pushable, pushedBy, pushed, pushing, placedBytes, Pushes, cutBy, cutting}
 use Rattle.ring.specs.declared.Cut.{Cut}
 use Rattle.ring.specs.declared.Push.{Push}
 use Rattle.ring.specs.declared.Push.the-variants.{Made, TooLarge, NoRoom, Full, BadCall}
@@ -17,7 +16,7 @@ use Rattle.ring.specs.declared.Ring.{Ring}
 use Rattle.ring.specs.declared.Source.{Source}
 use Rattle.ring.specs.declared.Source.the-variants.{Given}
 use Rattle.ring.proofs.Keeping.{Arrays}
-use Rattle.ring.proofs.Pushing.{Usable, pushOf, pushing-is}
+use Rattle.ring.proofs.Pushing.{Usable, pushing-is}
 use Rattle.ring.proofs.Sources.{placed-written}
 
 module _ (r : Ring) (a : List ℕ) (low : ℕ) (s : Source) (n v : List ℕ) (u : Usable r a s) where

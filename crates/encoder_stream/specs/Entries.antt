@@ -1,5 +1,5 @@
 -- What an instruction does to the entries of a table, to the last field, and to the arena; and what it does in the model.
-use mathlib.Core.Bool.{Bool, true, false, cond}
+use mathlib.Core.Bool.{true, false, cond}
 use mathlib.Core.List.{List, []}
 use mathlib.Core.Option.{Option, some, none}
 use Prim.Native.Nat.{ℕ}

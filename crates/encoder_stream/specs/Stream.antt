@@ -1,6 +1,6 @@
 -- A call on the encoder stream: "applies whole instructions, reports bytes consumed and total inserted, and writes one increment if anything was inserted".
 use mathlib.Core.Path.{_≡_}
-use mathlib.Core.Bool.{Bool, true, false, _&&_, cond}
+use mathlib.Core.Bool.{true, false, _&&_, cond}
 use mathlib.Core.List.{List, [], _++_}
 use Prim.Native.Nat.{ℕ, _-_, _≤_}
 use lib.Dec.{leb, eqb}

@@ -6,7 +6,7 @@ use mathlib.Core.Option.{Option, some, none}
 use Prim.Native.Nat.{ℕ, zero, suc, _≤_, _<_}
 use native.Mathlib.Omega.{arith}
 use lib.ListN.{length, getD}
-use Rattle.field.specs.Field.{Field, same, equal}
+use Rattle.field.specs.Field.{Field, same}
 use Rattle.entries.specs.Latest.{further, lastOf, matches}
 
 module _ {A : Type 0} (test : A → Bool) (z : A) where
@@ -41,12 +41,6 @@ module _ {A : Type 0} (test : A → Bool) (z : A) where
 
   pub some-is-last : (l : List A) (k : ℕ) → lastOf test l ≡ some k → IsLast l k
   some-is-last l k h = rw h at (last l)
-
-  pub none-passes : (l : List A) → lastOf test l ≡ none → (j : ℕ) → j < length l → test (getD l j z) ≡ false
-  none-passes l h = rw h at (last l)
-
-pub matches-whole : (n v : List ℕ) (f : Field) → matches n v true f ≡ equal (record { name = n; value = v }) f
-matches-whole n v f = refl
 
 pub matches-name : (n v : List ℕ) (f : Field) → matches n v false f ≡ same n (f .name)
 matches-name n v f = and-true (same n (f .name))

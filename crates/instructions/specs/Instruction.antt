@@ -1,5 +1,4 @@
 -- The instructions of the encoder stream, RFC 9204 4.3, with the strings that they carry.
-use mathlib.Core.Path.{_≡_}
 use mathlib.Core.Bool.{Bool}
 use mathlib.Core.List.{List}
 use mathlib.Core.Option.{Option, some, none}

@@ -1,10 +1,10 @@
 -- The insert of a section: "in this order: blocked count at or above its maximum, not inserted; then capacity".
 use mathlib.Core.Bool.{Bool, cond}
-use mathlib.Core.List.{List, [], _∷_}
+use mathlib.Core.List.{List}
 use mathlib.Core.Option.{Option, some, none}
 use Prim.Native.Nat.{ℕ, _+_, _-_}
 use lib.Dec.{leb, ltb}
-use Rattle.answers.specs.Answer.{Answer, done}
+use Rattle.answers.specs.Answer.{done}
 use Rattle.answers.specs.declared.Insertion.{Insertion}
 use Rattle.answers.specs.declared.Insertion.the-variants.{
   Inserted,

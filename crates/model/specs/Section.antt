@@ -1,11 +1,11 @@
 -- Sections: begin, find, commit, abandon.
-use mathlib.Core.Bool.{Bool, cond}
+use mathlib.Core.Bool.{cond}
 use mathlib.Core.List.{List, [], _∷_, _++_}
 use mathlib.Core.Option.{Option, some, none}
 use Prim.Native.Nat.{ℕ, _+_, _-_}
 use lib.Dec.{leb, ltb, eqb}
 use lib.ListN.{length}
-use Rattle.answers.specs.Answer.{Answer, done}
+use Rattle.answers.specs.Answer.{done}
 use Rattle.answers.specs.Table.{Done, ok}
 use Rattle.answers.specs.declared.Lookup.{Lookup}
 use Rattle.answers.specs.declared.Lookup.the-variants.{Relative, PostBase, NotFound}
@@ -13,7 +13,7 @@ use Rattle.answers.specs.declared.Refusal.the-variants.{NoSection, TrackingFull
 use Rattle.field.specs.Field.{Field, equal}
 use Rattle.entries.specs.Latest.{lastOf}
 use Rattle.model.specs.Bounds.{sectionEntries, entryUses, queuePlaces, blockedValues, blockedSections}
-use Rattle.model.specs.Table.{Use, Section, Open, Blocked, Table, insertedOf, blockedCount, Step, refuse}
+use Rattle.model.specs.Table.{Use, Open, Blocked, Table, insertedOf, blockedCount, Step, refuse}
 use Rattle.model.specs.Drop.{closed}
 
 abbrev pub withOpen : Option Open → Table → Table

@@ -3,8 +3,8 @@ use mathlib.Core.Bool.{cond}
 use mathlib.Core.List.{List, [], _∷_}
 use Prim.Native.Nat.{ℕ, zero, suc, _+_, _-_, _*_, _/_, _%_, _^_}
 use lib.Dec.{ltb}
-use lib.ListN.{length, drop}
-use Rattle.answers.specs.Answer.{Answer, done, refused, andThen}
+use lib.ListN.{drop}
+use Rattle.answers.specs.Answer.{Answer, done, refused}
 use Rattle.answers.specs.declared.Refusal.the-variants.{UnexpectedEnd, Overflow, BadCall}
 use Rattle.prefix_int.specs.declared.IntRead.{IntRead}
 use Rattle.prefix_int.specs.declared.IntRead.the-variants.{Int}

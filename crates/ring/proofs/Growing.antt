@@ -20,7 +20,7 @@ use Rattle.ring.specs.declared.Ring.{Ring}
 use Rattle.ring.proofs.Keeping.{Kept, Arrays, keeps-true, length-live}
 use Rattle.ring.proofs.Making.{roomAfter}
 
-map-drop : {A B : Type 0} (f : A → B) (k : ℕ) (l : List A) → map f (drop k l) ≡ drop k (map f l)
+pub map-drop : {A B : Type 0} (f : A → B) (k : ℕ) (l : List A) → map f (drop k l) ≡ drop k (map f l)
 map-drop f zero [] = refl
 map-drop f zero (x ∷ l) = refl
 map-drop f (suc k) [] = refl

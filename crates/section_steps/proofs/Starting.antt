@@ -6,12 +6,12 @@ use Prim.Native.Nat.{ℕ, _≤_, _<_}
 use lib.Dec.{leb}
 use lib.ListN.{length}
 use borrow.Author.Tests.{le-leb, lt-leb}
-use Rattle.answers.specs.Answer.{Answer, done, refused, andThen}
+use Rattle.answers.specs.Answer.{done, refused, andThen}
 use Rattle.answers.specs.declared.Refusal.the-variants.{SectionOpen, BadCall}
 use Rattle.arena.specs.Ring.{ring}
 use Rattle.dynamic.specs.Record.{sound}
 use Rattle.dynamic.specs.declared.Table.{Table}
-use Rattle.header_prefix.specs.Prefix.{Prefix, prefixAt, prefixRead}
+use Rattle.header_prefix.specs.Prefix.{prefixAt, prefixRead}
 use Rattle.header_prefix.specs.declared.PrefixRead.{PrefixRead}
 use Rattle.section_steps.specs.Section.{onTable, stateless, startOf, begun, cursorAt, begunBy}
 use Rattle.section_steps.specs.declared.Begun.{Begun}

@@ -7,7 +7,7 @@ use Prim.Native.Nat.{ℕ, zero, suc, _+_, _≤_, _<_}
 use native.Mathlib.Omega.{arith}
 use lib.ListN.{length, getD}
 use borrow.Author.Tests.{le-ltb}
-use Rattle.answers.specs.Answer.{Answer, done, refused, endsEarly, andThen, cutShort}
+use Rattle.answers.specs.Answer.{Answer, done, refused, endsEarly, cutShort}
 use Rattle.answers.specs.declared.Refusal.the-variants.{Overflow, InvalidPrefix}
 use Rattle.answers.proofs.Then.{then-done}
 use Rattle.forms.specs.Forms.{formOf, hasForm}

@@ -1,6 +1,6 @@
 -- What the loops of `section_floor` and `queue_floor` keep, and what these answer by cases. Assumes nothing.
 use mathlib.Core.Path.{_≡_, refl, _∙_}
-use mathlib.Core.Bool.{Bool, true, false, _&&_, cond, and-true, and-false}
+use mathlib.Core.Bool.{Bool, true, false, cond, and-true, and-false}
 use mathlib.Core.List.{List, [], _∷_}
 use Prim.Native.Nat.{ℕ, _+_, _≤_, _<_}
 use native.Mathlib.Numerals.{add-one}
@@ -134,10 +134,6 @@ module _ (q : Queue) (d i low : ℕ) where
       → record { live = true; low = least } ≡ queueFloor q d i low
   unfolding queueFloor
   live-sections least h a b = rw (le-leb (q .queued) queuePlaces h, a, b)
-
-  pub queue-live : queueFloor q d i low .live ≡ (leb (q .queued) queuePlaces && allSectionsLive d i (take (q .queued) (q .places)))
-  unfolding queueFloor
-  queue-live = floor-test _ _ low
 
   pub queue-low : q .queued ≤ queuePlaces → allSectionsLive d i (take (q .queued) (q .places)) ≡ true
       → queueFloor q d i low .low ≡ lowestOfAll low (take (q .queued) (q .places))

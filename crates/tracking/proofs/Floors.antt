@@ -84,9 +84,6 @@ module _ (d i d′ i′ : ℕ) (more : i ≤ i′) where
       rw (live-use d′ i′ u (f (u .entry) (first-used d i u us first)) (omega (arith, inserted d i u first)) (counted d i u first))
       (still-live us (and-right (isLiveUse d i u) _ h) (λ a z. f a (then-used a u us z)))
 
-  pub live-above : (low : ℕ) (us : List Use) → allLive d i us ≡ true → d′ < lowest low us → allLive d′ i′ us ≡ true
-  live-above low us h g = still-live us h (λ a z. omega (arith, lowest-used low us a z))
-
 -- ---- a section
 
 module _ (d i : ℕ) (s : Section) (h : sectionLive d i s ≡ true) where
@@ -157,6 +154,3 @@ module _ (d i d′ i′ : ℕ) (more : i ≤ i′) where
       let live = still-live d i d′ i′ more (sectionOf s .uses) (uses-live d i s first) (λ a z. f a (omega arith)) in
       rw (section-live d′ i′ s (few-uses d i s first) live)
       (still-queued q (and-right (sectionLive d i s) _ h) (λ a z. f a (omega arith)))
-
-  pub queued-above : (low : ℕ) (q : List Section) → allSectionsLive d i q ≡ true → d′ < lowestOfAll low q → allSectionsLive d′ i′ q ≡ true
-  queued-above low q h g = still-queued q h (λ a z. omega (arith, lowest-queued low q a z))

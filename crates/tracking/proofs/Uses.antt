@@ -66,10 +66,6 @@ module _ (us : List Held) (n x : ℕ) (h : n ≤ sectionEntries) where
   used-not-less =
       by-cases us n x h _ refl (λ (r : Noted). n ≤ r .used) (λ _ _. omega arith) (λ _ _. omega arith) (λ _ _. omega arith) (λ _ _. omega arith)
 
-  pub used-one-more : noting us n x .used ≤ n + 1
-  used-one-more =
-      by-cases us n x h _ refl (λ (r : Noted). r .used ≤ n + 1) (λ _ _. omega arith) (λ _ _. omega arith) (λ _ _. omega arith) (λ _ _. omega arith)
-
   pub length-noted : length (noting us n x .uses) ≡ length us
   length-noted =
       by-cases us n x h _ refl (λ (r : Noted). length (r .uses) ≡ length us)

@@ -5,7 +5,7 @@ use Prim.Native.Nat.{ℕ, _+_, _-_, _≤_, _<_}
 use native.Mathlib.Omega.{arith}
 use lib.Dec.{ltb, leb}
 use borrow.Author.Tests.{lt-ltb, le-ltb, le-leb, lt-leb, leb-false}
-use Rattle.answers.specs.Answer.{Answer, done, refused, answerNumber}
+use Rattle.answers.specs.Answer.{done, refused, answerNumber}
 use Rattle.answers.specs.declared.Refusal.the-variants.{BadRelativeIndex, BadPostbaseIndex, BadIndex}
 use Rattle.vas.specs.Vas.{named, relativeAt, postBaseAt, absoluteOf}
 

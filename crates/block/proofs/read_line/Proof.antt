@@ -1,5 +1,5 @@
 -- `block::read_line`: nothing left, or the line of the first byte's kind. Assumes nothing.
-use mathlib.Core.Path.{_≡_, ap, _∙_}
+use mathlib.Core.Path.{ap, _∙_}
 use borrow.Author.Tests.{le-leb}
 use denote.Ref.{now}
 use Rattle.forms.specs.declared.HeaderBlockField.{HeaderBlockField}

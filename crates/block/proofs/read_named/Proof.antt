@@ -1,5 +1,5 @@
 -- `block::read_named`: the index and the value, or why there are none. Assumes nothing.
-use mathlib.Core.Path.{_≡_, sym, ap, _∙_}
+use mathlib.Core.Path.{sym, ap, _∙_}
 use denote.Ref.{now}
 use Rattle.forms.specs.declared.Form.{Form}
 use Rattle.prefix_int.specs.Integer.{intAt}

@@ -1,5 +1,4 @@
 -- `block::reference_of`: a post-base line, T set, T not set. Assumes nothing.
-use mathlib.Core.Path.{_≡_}
 use borrow.Author.Tests.{eq-eqb, ne-eqb}
 use Rattle.block.proofs.reference_of.Statement.{statement}
 use Rattle.block.proofs.reference_of.Tie as tie

@@ -1,10 +1,9 @@
 -- `decoder::read_stateless`: each turn stores a field, or ends the section. Assumes nothing.
-use mathlib.Core.Path.{_≡_, refl, sym, ap, _∙_}
+use mathlib.Core.Path.{_≡_, refl, sym, _∙_}
 use Prim.Native.Nat.{_-_}
 use native.Mathlib.Omega.{arith}
 use lib.ListN.{length, length-set}
 use denote.Ref.{now}
-use borrow.Author.Needs.{needs}
 use Rattle.decoder.specs.Section.{stateless, numbers}
 use Rattle.decoder.proofs.Turns.{Stands, first, stands-ended, stands-within, stands-moves, stands-next}
 use Rattle.decoder.proofs.read_stateless.Statement.{statement}

@@ -1,5 +1,4 @@
 -- `encoder_stream::finish`: an increment where all was applied, nothing after a refusal. Assumes nothing.
-use mathlib.Core.Path.{_≡_, refl, sym, ap}
 use Rattle.encoder_stream.proofs.Increments.{told-done, told-refused}
 use borrow.Author.Needs.{needs}
 use Rattle.encoder_stream.proofs.finish.Statement.{statement}

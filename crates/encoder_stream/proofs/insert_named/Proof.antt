@@ -1,5 +1,5 @@
 -- `encoder_stream::insert_named`: the live entry that the index names, or why there is none. Assumes nothing.
-use mathlib.Core.Path.{_≡_, sym, ap, _∙_}
+use mathlib.Core.Path.{sym, ap, _∙_}
 use denote.Ref.{now}
 use Rattle.vas.specs.Vas.{located}
 use Rattle.encoder_stream.proofs.Applying.{named-unnamed, named-pushed}

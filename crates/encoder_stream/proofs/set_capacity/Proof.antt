@@ -1,5 +1,5 @@
 -- `encoder_stream::set_capacity`: a capacity that no table has, a cut that a reference blocks, or the cut. Assumes nothing.
-use mathlib.Core.Path.{_≡_, sym, ap, _∙_}
+use mathlib.Core.Path.{sym, ap, _∙_}
 use borrow.Author.Tests.{not-true, not-false}
 use Rattle.dynamic.specs.Calls.{tested}
 use Rattle.encoder_stream.proofs.Applying.{capacity-kept, capacity-blocked, capacity-set}

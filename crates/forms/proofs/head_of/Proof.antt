@@ -1,5 +1,4 @@
 -- `forms::head_of`: every width is below 8, and the flags leave room for one more. Assumes nothing.
-use mathlib.Core.Path.{_≡_}
 use native.Mathlib.Nat.{add-zero}
 use native.Mathlib.Omega.{arith}
 use Rattle.forms.proofs.Every.{width-high, flags-high}

@@ -1,5 +1,5 @@
 -- `instructions::read_capacity`: what its reader found, as a capacity. Assumes nothing.
-use mathlib.Core.Path.{_≡_, sym, ap, _∙_}
+use mathlib.Core.Path.{sym, ap, _∙_}
 use denote.Ref.{now}
 use Rattle.forms.specs.declared.EncoderInstruction.the-variants.{DynamicTableSizeUpdate}
 use Rattle.forms.specs.declared.Kind.the-variants.{Encoder}

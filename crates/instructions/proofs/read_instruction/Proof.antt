@@ -1,7 +1,6 @@
 -- `instructions::read_instruction`: the reader of the kind that the first byte gives. Assumes nothing.
-use mathlib.Core.Path.{_≡_, sym, ap, _∙_}
+use mathlib.Core.Path.{sym, ap, _∙_}
 use denote.Ref.{now}
-use Rattle.forms.specs.Forms.{encoderKind}
 use Rattle.forms.specs.declared.EncoderInstruction.the-variants.{Duplicate}
 use Rattle.forms.specs.declared.Kind.the-variants.{Encoder}
 use Rattle.stream.proofs.Found.{past-end, integer-over}

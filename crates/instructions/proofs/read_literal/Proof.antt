@@ -1,5 +1,5 @@
 -- `instructions::read_literal`: what its reader found, as an insert with both strings. Assumes nothing.
-use mathlib.Core.Path.{_≡_, sym, ap, _∙_}
+use mathlib.Core.Path.{sym, ap, _∙_}
 use denote.Ref.{now}
 use Rattle.stream.specs.Instructions.{literalRead}
 use Rattle.stream.proofs.Found.{literal-found}

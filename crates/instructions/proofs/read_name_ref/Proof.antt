@@ -1,5 +1,5 @@
 -- `instructions::read_name_ref`: what its reader found, as an insert with a name reference. Assumes nothing.
-use mathlib.Core.Path.{_≡_, sym, ap, _∙_}
+use mathlib.Core.Path.{sym, ap, _∙_}
 use denote.Ref.{now}
 use Rattle.stream.specs.Instructions.{nameRefRead}
 use Rattle.stream.proofs.Found.{name-ref-found}

@@ -1,5 +1,5 @@
 -- `line_writing::indexed_head`: the head of the kind of each reference. Assumes nothing.
-use mathlib.Core.Path.{_≡_, sym, ap, _∙_}
+use mathlib.Core.Path.{sym, ap, _∙_}
 use Rattle.line_writing.specs.Bytes.{indexedHead}
 use borrow.Author.Needs.{needs}
 use Rattle.line_writing.proofs.indexed_head.Statement.{statement}

@@ -1,5 +1,4 @@
 -- `line_writing::write_indexed`: the head of the reference, and then its index. Assumes nothing.
-use mathlib.Core.Path.{_≡_}
 use Rattle.line_writing.specs.Bytes.{indexedBytes}
 use borrow.Author.Needs.{needs}
 use Rattle.line_writing.proofs.write_indexed.Statement.{statement}

@@ -1,5 +1,4 @@
 -- `line_writing::write_literal`: the head of the kind above H, and then both strings. Assumes nothing.
-use mathlib.Core.Path.{_≡_}
 use Rattle.line_writing.specs.Bytes.{literalBytes}
 use borrow.Author.Needs.{needs}
 use Rattle.line_writing.proofs.write_literal.Statement.{statement}

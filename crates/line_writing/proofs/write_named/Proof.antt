@@ -1,5 +1,4 @@
 -- `line_writing::write_named`: the head of the reference, and then its index and the value. Assumes nothing.
-use mathlib.Core.Path.{_≡_}
 use Rattle.line_writing.specs.Bytes.{namedBytes}
 use borrow.Author.Needs.{needs}
 use Rattle.line_writing.proofs.write_named.Statement.{statement}

@@ -1,6 +1,5 @@
 -- `section_steps::begin_on`: 22, 18, or what the prefix gives. Assumes nothing.
 use mathlib.Core.Path.{_≡_, sym, _∙_}
-use mathlib.Core.Bool.{true}
 use denote.Ref.{now}
 use borrow.Author.Tests.{not-true, not-false}
 use Rattle.dynamic.specs.Record.{sound}

@@ -1,5 +1,5 @@
 -- `section_steps::has_room`: the list, the buffer and the sum, one after the other. Assumes nothing.
-use mathlib.Core.Path.{_≡_, _∙_}
+use mathlib.Core.Path.{_∙_}
 use Prim.Native.Nat.{_+_}
 use native.Mathlib.Omega.{arith}
 use Rattle.section_steps.proofs.Sizes.{list-full, buffer-full, fits-so-far, not-past}

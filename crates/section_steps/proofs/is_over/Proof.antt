@@ -1,5 +1,5 @@
 -- `section_steps::is_over`: by the limit, if there is one. Assumes nothing.
-use mathlib.Core.Path.{_≡_, sym, _∙_}
+use mathlib.Core.Path.{sym, _∙_}
 use Rattle.section_steps.proofs.Sizes.{over-by}
 use borrow.Author.Needs.{needs}
 use Rattle.section_steps.proofs.is_over.Statement.{statement}

@@ -1,7 +1,6 @@
 -- `section_steps::next_stateless`: why there is no line, the end, or the field of the line. Assumes nothing.
 use mathlib.Core.Path.{_≡_, sym, ap, _∙_}
 use mathlib.Core.List.{[]}
-use lib.ListN.{length}
 use denote.Ref.{now}
 use Rattle.answers.specs.Answer.{done}
 use Rattle.section_steps.specs.Section.{stateless, begunBy, cursorAt}

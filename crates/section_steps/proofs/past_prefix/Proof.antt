@@ -1,5 +1,5 @@
 -- `section_steps::past_prefix`: a cursor with what the prefix gave. Assumes nothing.
-use mathlib.Core.Path.{_≡_, sym, ap}
+use mathlib.Core.Path.{sym, ap}
 use Rattle.answers.specs.Answer.{Answer, done, andThen}
 use Rattle.header_prefix.specs.Prefix.{Prefix, prefixRead}
 use Rattle.section_steps.specs.Section.{begun}

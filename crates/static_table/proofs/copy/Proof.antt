@@ -1,7 +1,6 @@
 -- `static_table::copy`: each way out is one of the answers, by the tests that led there. Assumes nothing.
 use native.Mathlib.Omega.{arith}
 use denote.Ref.{now}
-use Rattle.static_table.specs.AppendixA.{appendixA}
 use Rattle.static_table.proofs.Copied.{copy-bad, copy-full, copy-next}
 use borrow.Author.Needs.{needs}
 use Rattle.static_table.proofs.copy.Statement.{statement}

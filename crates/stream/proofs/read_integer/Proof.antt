@@ -1,5 +1,5 @@
 -- `stream::read_integer`: the integer within its limit or past it, cut, or refused. Assumes nothing.
-use mathlib.Core.Path.{_≡_, refl, sym, ap, _∙_}
+use mathlib.Core.Path.{refl, sym, ap, _∙_}
 use denote.Ref.{now}
 use Rattle.answers.proofs.Cut.{cut-whole, cut-past, cut-early, cut-refused}
 use Rattle.prefix_int.specs.Integer.{intRead}

@@ -1,5 +1,5 @@
 -- `stream_parts::kind_int`: the integer, the same kind, another kind, or no integer. Assumes nothing.
-use mathlib.Core.Path.{_≡_, sym, ap, _∙_}
+use mathlib.Core.Path.{sym, ap, _∙_}
 use native.Mathlib.Omega.{arith}
 use denote.Ref.{now}
 use Rattle.prefix_int.specs.Integer.{intRead}

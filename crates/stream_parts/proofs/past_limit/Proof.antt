@@ -1,5 +1,4 @@
 -- `stream_parts::past_limit`: only an increment has a limit. Assumes nothing.
-use mathlib.Core.Path.{_≡_}
 use borrow.Author.Needs.{needs}
 use Rattle.stream_parts.proofs.past_limit.Statement.{statement}
 use Rattle.stream_parts.proofs.past_limit.Tie as tie

@@ -1,5 +1,4 @@
 -- `stream_parts::write_integer`: the head of the kind, and then the integer. Assumes nothing.
-use mathlib.Core.Path.{_≡_}
 use Rattle.stream_parts.specs.Parts.{integerBytes}
 use borrow.Author.Needs.{needs}
 use Rattle.stream_parts.proofs.write_integer.Statement.{statement}

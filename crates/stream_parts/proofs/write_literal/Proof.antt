@@ -1,5 +1,4 @@
 -- `stream_parts::write_literal`: the head of the kind above H, and then both strings. Assumes nothing.
-use mathlib.Core.Path.{_≡_}
 use Rattle.stream_parts.specs.Parts.{literalBytes}
 use borrow.Author.Needs.{needs}
 use Rattle.stream_parts.proofs.write_literal.Statement.{statement}

@@ -1,5 +1,4 @@
 -- `stream_parts::write_name_ref`: the head of the kind with T, and then the index and the value. Assumes nothing.
-use mathlib.Core.Path.{_≡_}
 use Rattle.stream_parts.specs.Parts.{nameRefBytes}
 use borrow.Author.Needs.{needs}
 use Rattle.stream_parts.proofs.write_name_ref.Statement.{statement}
