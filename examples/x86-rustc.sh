@@ -35,7 +35,7 @@ for d in debs/libc6* debs/libgcc*; do dpkg -x "$d" x86; done
 for d in lib lib64; do
     if [ -d x86/$d ] && [ ! -L x86/$d ]; then mkdir -p x86/usr/$d && cp -a x86/$d/. x86/usr/$d/ && rm -rf "x86/${d:?}" && ln -s usr/$d x86/$d; fi
 done
-cat >link <<S
+cat >./link <<S
 #!/bin/sh
 exec "$kit/clang" --target=x86_64-linux-gnu --sysroot="$here/x86" -fuse-ld=lld -B"$kit" "\$@"
 S

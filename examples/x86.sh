@@ -1,3 +1,4 @@
+# shellcheck shell=bash disable=SC2034
 # Sourced by the scripts that build programs for x86-64, as the archive is, from the repository's folder. On another
 # processor such a program is built by compilers for x86-64, and runs under the kit's emulator.
 machine=$(uname -m)

@@ -237,14 +237,17 @@ fn whole_section(meter: &Meter, live: usize) {
     row("begin, ten finds, commit", live, 1, ours, rust);
 }
 
+/// Ends with one line.
+fn fail(why: &str) -> ! {
+    eprintln!("bench: {why}");
+    std::process::exit(2)
+}
+
 fn main() {
     let meter = match std::env::args().nth(1).as_deref() {
         None => Meter::Clock,
-        Some("count") => Meter::counter(),
-        Some(word) => {
-            eprintln!("bench: its one word is count, and not {word}");
-            std::process::exit(2)
-        }
+        Some("count") => Meter::counter().unwrap_or_else(|_| fail("it counts under qemu-x86_64 with the plugin of count.c alone")),
+        Some(word) => fail(&format!("its one word is count, and not {word}")),
     };
     println!("| Call | Live entries | Ours, {0} | The Rust, {0} | Ratio |\n|---|---|---|---|---|", meter.unit());
     for live in [10, 100, 400] {

@@ -1,6 +1,6 @@
 //! What a call costs: in nanoseconds, or in instructions where the program runs under the emulator with count.c.
 use std::hint::black_box;
-use std::io::Read;
+use std::io::{Read, Result};
 use std::os::raw::c_long;
 use std::os::unix::io::AsRawFd;
 use std::os::unix::net::UnixStream;
@@ -24,11 +24,13 @@ extern "C" {
 }
 
 impl Meter {
-    pub fn counter() -> Meter {
-        let (asked, told) = UnixStream::pair().expect("a pair of sockets");
+    /// An error where no plugin answers.
+    pub fn counter() -> Result<Meter> {
+        let (asked, told) = UnixStream::pair()?;
         // with no plugin there is nothing to read, and no reason to wait
-        told.set_nonblocking(true).expect("a socket that does not wait");
-        Meter::Counter { asked, told }
+        told.set_nonblocking(true)?;
+        executed(&asked, &told)?;
+        Ok(Meter::Counter { asked, told })
     }
 
     pub fn unit(&self) -> &str {
@@ -42,18 +44,18 @@ impl Meter {
     pub fn cost<S>(&self, start: impl FnMut() -> S, work: impl FnMut(&mut S)) -> f64 {
         match self {
             Meter::Clock => timed(start, work),
-            Meter::Counter { asked, told } => counted(|| executed(asked, told), start, work),
+            Meter::Counter { asked, told } => counted(|| executed(asked, told).expect("the count"), start, work),
         }
     }
 }
 
 /// The instructions executed so far.
-fn executed(asked: &UnixStream, mut told: &UnixStream) -> u64 {
+fn executed(asked: &UnixStream, mut told: &UnixStream) -> Result<u64> {
     // SAFETY: no kernel has this call, and the emulator's plugin writes to the socket alone.
     unsafe { syscall(ASK, asked.as_raw_fd()) };
     let mut count = [0; 8];
-    told.read_exact(&mut count).expect("the count: does the program run under qemu-x86_64 with the plugin?");
-    u64::from_le_bytes(count)
+    told.read_exact(&mut count)?;
+    Ok(u64::from_le_bytes(count))
 }
 
 /// The median of some rounds.

@@ -32,7 +32,9 @@ if [ $meter = clock ]; then
 fi
 # Debian's emulator: the kit's takes no plugin
 need qemu-x86_64 qemu-user
+qemu-x86_64 -help | grep -q '^-plugin' || fail "$(command -v qemu-x86_64) takes no plugin; that of Debian 12's package qemu-user does"
 need cc gcc libc6-dev
 cc -O2 -Wall -Wextra -fPIC -shared tests/bench/count.c -o target/bench/count.so
 build counted -C target-feature=+crt-static
-exec qemu-x86_64 -plugin target/bench/count.so target/bench/counted count
+# a plain processor: on one with erms the C library copies by an instruction that the emulator executes once for each byte
+exec qemu-x86_64 -cpu qemu64 -plugin target/bench/count.so target/bench/counted count
