@@ -1,15 +1,16 @@
 //! What a call costs, here and in the Rust, from the same inputs in one run. docs/BENCHMARKS.md has the table and the inputs.
+mod meter;
 #[path = "../oracle/table.rs"]
 mod rust_table;
 
 use h3::qpack::decoder::{decode_stateless, Decoder};
 use h3::qpack::field::HeaderField;
 use h3::qpack::prefix_int;
+use meter::Meter;
 use qpack_table::{Record, Table};
 use rust_table::Table as RustTable;
 use std::hint::black_box;
 use std::io::Cursor;
-use std::time::Instant;
 
 /// Bytes of name and value of every entry, so that 400 live ones take 16,000.
 const ENTRY: usize = 40;
@@ -52,22 +53,6 @@ impl Both {
     }
 }
 
-/// The median nanoseconds of some rounds, each from the same start, which is not timed.
-fn median<S>(rounds: usize, mut start: impl FnMut() -> S, mut work: impl FnMut(&mut S)) -> f64 {
-    let mut times: Vec<u128> = (0..rounds)
-        .map(|_| {
-            let mut s = start();
-            let t = Instant::now();
-            work(&mut s);
-            let n = t.elapsed().as_nanos();
-            black_box(&s);
-            n
-        })
-        .collect();
-    times.sort();
-    times[rounds / 2] as f64
-}
-
 fn row(what: &str, live: usize, per: usize, ours: f64, rust: f64) {
     let (ours, rust) = (ours / per as f64, rust / per as f64);
     println!("| {what} | {live} | {ours:.0} | {rust:.0} | {:.2} |", ours / rust);
@@ -85,8 +70,6 @@ fn string(width: u8, flags: u8, s: &[u8]) -> Vec<u8> {
     out
 }
 
-const ROUNDS: usize = 301;
-
 /// A stream of one kind of instruction.
 fn instructions(kind: &str, live: usize) -> Vec<u8> {
     let one = |k: usize| match kind {
@@ -99,13 +82,12 @@ fn instructions(kind: &str, live: usize) -> Vec<u8> {
     (0..INSTRUCTIONS).flat_map(one).collect()
 }
 
-fn encoder_streams(live: usize) {
+fn encoder_streams(meter: &Meter, live: usize) {
     for kind in ["literal insert", "insert, static name", "insert, dynamic name", "duplicate", "set capacity"] {
         let s = instructions(kind, live);
         let b = Both::new(live, 0);
-        let ours = median(ROUNDS, || (b.ours.clone(), [0u8; 8]), |(t, out)| drop(black_box(t.on_encoder_recv(&s, out).unwrap())));
-        let rust = median(
-            ROUNDS,
+        let ours = meter.cost(|| (b.ours.clone(), [0u8; 8]), |(t, out)| drop(black_box(t.on_encoder_recv(&s, out).unwrap())));
+        let rust = meter.cost(
             || (Decoder { table: b.rust.clone().rust }, Vec::with_capacity(8)),
             |(d, out): &mut (Decoder, Vec<u8>)| drop(black_box(d.on_encoder_recv(&mut Cursor::new(&s[..]), out).unwrap())),
         );
@@ -128,28 +110,28 @@ fn section(kind: &str, live: usize) -> Vec<u8> {
     prefix.into_iter().chain((0..FIELDS).flat_map(one)).collect()
 }
 
-fn sections(live: usize) {
+fn sections(meter: &Meter, live: usize) {
     for kind in ["indexed, dynamic", "indexed, static", "literal, dynamic name", "literal"] {
         let s = section(kind, live);
         let b = Both::new(live, 0);
         let d = Decoder { table: b.rust.rust };
         let blank = || ([Record::new(0, 0, 0); 32], [0u8; 2048]);
-        let ours = median(ROUNDS, blank, |(records, out)| drop(black_box(b.ours.read_section(&s, records, out).unwrap())));
-        let rust = median(ROUNDS, || (), |_| drop(black_box(d.decode_header(&mut Cursor::new(&s[..])).unwrap())));
+        let ours = meter.cost(blank, |(records, out)| drop(black_box(b.ours.read_section(&s, records, out).unwrap())));
+        let rust = meter.cost(|| (), |_| drop(black_box(d.decode_header(&mut Cursor::new(&s[..])).unwrap())));
         row(&format!("section, {kind}"), live, FIELDS, ours, rust);
     }
 }
 
-fn stateless() {
+fn stateless(meter: &Meter) {
     let s = section("indexed, static", 10);
     let blank = || ([Record::new(0, 0, 0); 32], [0u8; 2048]);
-    let ours = median(ROUNDS, blank, |(records, out)| drop(black_box(qpack_table::read_stateless(&s, 1 << 20, records, out).unwrap())));
-    let rust = median(ROUNDS, || (), |_| drop(black_box(decode_stateless(&mut Cursor::new(&s[..]), 1 << 20).unwrap())));
+    let ours = meter.cost(blank, |(records, out)| drop(black_box(qpack_table::read_stateless(&s, 1 << 20, records, out).unwrap())));
+    let rust = meter.cost(|| (), |_| drop(black_box(decode_stateless(&mut Cursor::new(&s[..]), 1 << 20).unwrap())));
     row("stateless section, indexed, static", 0, FIELDS, ours, rust);
 }
 
 /// Ten calls in an open section.
-fn in_a_section(live: usize) {
+fn in_a_section(meter: &Meter, live: usize) {
     let kinds: [(&str, usize, &dyn Fn(usize) -> usize); 4] = [
         ("find, hit", 0, &|k| k * 37 % live),
         ("find, miss", 0, &|k| 600 + k),
@@ -165,7 +147,7 @@ fn in_a_section(live: usize) {
             t.begin(4).unwrap();
             t
         };
-        let ours = median(ROUNDS, open, |t| {
+        let ours = meter.cost(open, |t| {
             for f in &fields {
                 if is_find {
                     drop(black_box(t.find(&f.name, &f.value).unwrap()));
@@ -174,7 +156,7 @@ fn in_a_section(live: usize) {
                 }
             }
         });
-        let rust = median(ROUNDS, || rust_open(&b.rust), |t| {
+        let rust = meter.cost(|| rust_open(&b.rust), |t| {
             t.in_section(|e| {
                 for f in &fields {
                     if is_find {
@@ -200,10 +182,10 @@ fn rust_open(t: &RustTable) -> RustTable {
     t
 }
 
-fn begin_commit_acknowledge(live: usize) {
+fn begin_commit_acknowledge(meter: &Meter, live: usize) {
     let b = Both::new(live, 0);
-    let ours = median(ROUNDS, || b.ours.clone(), |t| t.begin(4).unwrap());
-    let rust = median(ROUNDS, || b.rust.clone(), |t| {
+    let ours = meter.cost(|| b.ours.clone(), |t| t.begin(4).unwrap());
+    let rust = meter.cost(|| b.rust.clone(), |t| {
         let mut e = t.rust.encoder(4);
         e.commited = true;
     });
@@ -219,33 +201,33 @@ fn begin_commit_acknowledge(live: usize) {
     };
     let mut open = b.ours.clone();
     used(&mut open);
-    let ours = median(ROUNDS, || open.clone(), |t| t.commit(live).unwrap());
-    let rust = median(ROUNDS, rust_used, |t| t.in_section(|e| e.commit(live)));
+    let ours = meter.cost(|| open.clone(), |t| t.commit(live).unwrap());
+    let rust = meter.cost(rust_used, |t| t.in_section(|e| e.commit(live)));
     row("commit", live, 1, ours, rust);
     let mut committed = open.clone();
     committed.commit(live).unwrap();
-    let ours = median(ROUNDS, || committed.clone(), |t| t.acknowledge(4).unwrap());
+    let ours = meter.cost(|| committed.clone(), |t| t.acknowledge(4).unwrap());
     let rust_committed = || {
         let mut t = rust_used();
         t.in_section(|e| e.commit(live));
         t
     };
-    let rust = median(ROUNDS, rust_committed, |t| t.rust.untrack_block(4).unwrap());
+    let rust = meter.cost(rust_committed, |t| t.rust.untrack_block(4).unwrap());
     row("acknowledgement", live, 1, ours, rust);
 }
 
 /// What a sender does for a section whose fields are all there.
-fn whole_section(live: usize) {
+fn whole_section(meter: &Meter, live: usize) {
     let b = Both::new(live, 0);
     let fields: Vec<HeaderField> = (0..CALLS).map(|k| field(k * 37 % live)).collect();
-    let ours = median(ROUNDS, || b.ours.clone(), |t| {
+    let ours = meter.cost(|| b.ours.clone(), |t| {
         t.begin(4).unwrap();
         for f in &fields {
             drop(black_box(t.find(&f.name, &f.value).unwrap()));
         }
         t.commit(live).unwrap();
     });
-    let rust = median(ROUNDS, || b.rust.clone(), |t| {
+    let rust = meter.cost(|| b.rust.clone(), |t| {
         let mut e = t.rust.encoder(4);
         for f in &fields {
             drop(black_box(e.find(f)));
@@ -255,14 +237,25 @@ fn whole_section(live: usize) {
     row("begin, ten finds, commit", live, 1, ours, rust);
 }
 
+/// Ends with one line.
+fn fail(why: &str) -> ! {
+    eprintln!("bench: {why}");
+    std::process::exit(2)
+}
+
 fn main() {
-    println!("| Call | Live entries | Ours, ns | The Rust, ns | Ratio |\n|---|---|---|---|---|");
+    let meter = match std::env::args().nth(1).as_deref() {
+        None => Meter::Clock,
+        Some("count") => Meter::counter().unwrap_or_else(|_| fail("it counts under qemu-x86_64 with the plugin of count.c alone")),
+        Some(word) => fail(&format!("its one word is count, and not {word}")),
+    };
+    println!("| Call | Live entries | Ours, {0} | The Rust, {0} | Ratio |\n|---|---|---|---|---|", meter.unit());
     for live in [10, 100, 400] {
-        encoder_streams(live);
-        sections(live);
-        in_a_section(live);
-        begin_commit_acknowledge(live);
-        whole_section(live);
+        encoder_streams(&meter, live);
+        sections(&meter, live);
+        in_a_section(&meter, live);
+        begin_commit_acknowledge(&meter, live);
+        whole_section(&meter, live);
     }
-    stateless();
+    stateless(&meter);
 }

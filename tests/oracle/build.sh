@@ -1,6 +1,6 @@
 #!/usr/bin/env bash
 # build.sh [RUST]: builds the oracle, h3's qpack modules with items made visible and nothing else edited, and the driver over it.
-# RUST is the folder that holds src/qpack and src/proto (default ../shared/docs). Everything goes to target/oracle:
+# RUST is the folder that holds src/qpack and src/proto (default ../shared/docs); RUSTC names another compiler. Everything goes to target/oracle:
 #   src/          the copy with the visibility edits, and edits.diff, which shows them
 #   wraps/        the build in which overflow wraps, as a release build
 #   panics/       the build in which overflow panics, as a debug build
@@ -12,7 +12,8 @@ out=target/oracle
 
 fail() { echo "build.sh: $*" >&2; exit 2; }
 [ -f "$rust/src/qpack/dynamic.rs" ] || fail "$rust holds no src/qpack/dynamic.rs"
-command -v rustc >/dev/null || fail "rustc is not on the PATH"
+rustc=${RUSTC:-rustc}
+command -v "$rustc" >/dev/null || fail "$rustc is not on the PATH"
 
 # the one crate that qpack uses, from Debian's packages
 bytes_root() { dpkg -L librust-bytes-dev 2>/dev/null | grep '/src/lib.rs$' || true; }
@@ -64,11 +65,11 @@ for build in wraps panics; do
     [ "$build" = wraps ] || flags+=(-C overflow-checks=yes -C debug-assertions=yes)
     lib=$out/$build
     mkdir -p "$lib"
-    rustc --crate-name bytes --crate-type rlib --edition 2018 --cfg 'feature="std"' --cfg 'feature="default"' \
+    "$rustc" --crate-name bytes --crate-type rlib --edition 2018 --cfg 'feature="std"' --cfg 'feature="default"' \
         "${flags[@]}" -o "$lib/libbytes.rlib" "$bytes"
-    rustc --crate-name h3 --crate-type rlib --edition 2021 "${flags[@]}" --extern bytes="$lib/libbytes.rlib" \
+    "$rustc" --crate-name h3 --crate-type rlib --edition 2021 "${flags[@]}" --extern bytes="$lib/libbytes.rlib" \
         -L "$lib" -o "$lib/libh3.rlib" "$out/src/lib.rs"
-    rustc --crate-name differ --edition 2021 "${flags[@]}" --extern h3="$lib/libh3.rlib" --extern bytes="$lib/libbytes.rlib" \
+    "$rustc" --crate-name differ --edition 2021 "${flags[@]}" --extern h3="$lib/libh3.rlib" --extern bytes="$lib/libbytes.rlib" \
         -L "$lib" -o "$out/differ-$build" tests/oracle/main.rs
 done
-echo "oracle built in $out: $(grep -c '^+[^+]' "$out/edits.diff") lines made visible, nothing else edited; $(rustc --version)"
+echo "oracle built in $out: $(grep -c '^+[^+]' "$out/edits.diff") lines made visible, nothing else edited; $("$rustc" --version)"
