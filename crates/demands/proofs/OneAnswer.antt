@@ -16,7 +16,7 @@
 -- | begin_on (section_steps) | begunBy r ≡ .. | one-begun (Meanings) |
 -- | every writer: prefix_int, prefix_string, shapes, stream, block; static_table::copy, arena::copy | Writes | one-write |
 -- | Ring: push | Pushes | one-push |
--- | prefix_int: read, size; prefix_string: read, size | intRead, textRead, intSize r ≡ .. | one-int, one-text, one-size (Meanings) |
+-- | prefix_int: read, size; stream_parts: kind_int; prefix_string: read, size | intRead, textRead, intSize r ≡ .. | one-int, one-text, one-size (Meanings) |
 -- | shapes: text_after, texts | intTextRead, textsRead r ≡ .. | one-int-text, one-texts (Meanings) |
 -- | static_table: get, find, find_name | got, found r ≡ .. | one-got, one-found (Meanings) |
 -- | VirtualAddressSpace: relative, relative_base, post_base, index | located r ≡ .. | one-located (Meanings) |
@@ -28,7 +28,7 @@
 -- | dynamic: capacity_test | tested r ≡ .. | one-capacity-test (Meanings) |
 -- | entries: fewest | r ≡ .., for every array of starts | one-room |
 -- | arena: write, move_bytes | the arena after ≡ .. | one-exact |
--- | section_steps: begin; Table: fresh, checked; dynamic: push_reply; Ring: sound, room, cut; all of tracking and forms; answers: number, ends_early; prefix_int: call_ok; VirtualAddressSpace: largest_ref; arena: is_at; entries: check | r ≡ .. | one-exact |
+-- | section_steps: begin; Table: fresh, checked; dynamic: push_reply; Ring: sound, room, cut; all of tracking and forms; answers: number, ends_early; prefix_int, text_writing: call_ok; stream_parts: past_limit; call_parts: open_floor, lookup_of, with_uses, waiting_with; VirtualAddressSpace: largest_ref; arena: is_at; entries: check | r ≡ .. | one-exact |
 -- | instructions: read_instruction | instructionRead s r ≡ .. | one-instruction: see there |
 -- | field_lines: read_on, read_static | fieldRead s a r ≡ .., for every arena | one-field: see there |
 -- | field_lines: entry_on, entry_static, static_entry | entryRead a r ≡ .., for every arena | one-entry: see there |
