@@ -1,2 +1,3 @@
+pub mod Powers
 pub mod Writers
 pub mod Writing

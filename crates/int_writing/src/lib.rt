@@ -17,13 +17,6 @@ pub enum IntSize {
 // The first value that no writer takes.
 const VALUE_LIMIT: u64 = 0x8000_0000_0000_0000;
 
-// A byte as a u64.
-fn wide(x: u8) -> u64
-    ensures { λ r. ⌜ r ≡ x ⌝ }
-{
-    x as u64
-}
-
 // 2 to the k.
 fn power(k: u32) -> u64
     requires { ⌜ k ≤ 8 ⌝ }
@@ -66,7 +59,7 @@ pub fn call_ok(width: u32, flags: u8) -> bool
     if 8 < width {
         return false;
     }
-    wide(flags) < power(8 - width)
+    (flags as u64) < power(8 - width)
 }
 
 // How many bytes an integer takes, before any is written.
@@ -129,6 +122,6 @@ pub fn write(buf: &mut [u8], at: usize, width: u32, flags: u8, value: u64) -> Wr
     if buf.len() - n < at {
         return Written::Refused(Refusal::OutputFull);
     }
-    store(buf, at, width, wide(flags), value);
+    store(buf, at, width, flags as u64, value);
     Written::Next(at + n)
 }

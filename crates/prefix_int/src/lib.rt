@@ -18,21 +18,6 @@ pub enum IntRead {
     Refused(Refusal),
 }
 
-// A byte as a u64.
-fn wide(x: u8) -> u64
-    ensures { λ r. ⌜ r ≡ x ⌝ }
-{
-    x as u64
-}
-
-// 2 to the k.
-fn power(k: u32) -> u64
-    requires { ⌜ k ≤ 8 ⌝ }
-    ensures { λ r. ⌜ (r ≡ 2 ^ k) × (1 ≤ r) × (r ≤ 256) ⌝ }
-{
-    1u64 << k
-}
-
 // The groups that follow a full prefix.
 fn rest(s: &[u8], from: usize, flags: u8, first: u64) -> IntRead
     requires { ⌜ first < 256 ⌝ }
@@ -46,7 +31,7 @@ fn rest(s: &[u8], from: usize, flags: u8, first: u64) -> IntRead
         if s.len() <= at {
             return IntRead::Refused(Refusal::UnexpectedEnd);
         }
-        let b = wide(s[at]);
+        let b = s[at] as u64;
         if b < 128 {
             return IntRead::Int {
                 flags,
@@ -75,8 +60,8 @@ pub fn read(s: &[u8], at: usize, width: u32) -> IntRead
     if s.len() <= at {
         return IntRead::Refused(Refusal::UnexpectedEnd);
     }
-    let p = power(width);
-    let b = wide(s[at]);
+    let p = 1u64 << width;
+    let b = s[at] as u64;
     let flags = (b / p) as u8;
     let low = b % p;
     if low < p - 1 {

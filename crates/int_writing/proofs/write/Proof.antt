@@ -1,7 +1,7 @@
 -- `int_writing::write`: each return is one of the outcomes of a writer, by the tests that led there. Assumes nothing.
 use mathlib.Core.Path.{_≡_, sym, ap, _∙_}
 use mathlib.Core.Bool.{true}
-use Prim.Native.Nat.{_+_, _-_, _^_, _<_}
+use Prim.Native.Nat.{_+_}
 use native.Mathlib.Omega.{arith}
 use lib.ListN.{length}
 use borrow.Author.Tests.{not-true, not-false}
@@ -54,16 +54,11 @@ sub-if4 c = search needs
 returns-4 : tie.Need-returns-4
 returns-4 c = writes-full _ _ _ _ (bytes (c .before .before)) (omega (arith, many (c .before .before)))
 
-wide-requires : tie.Need-wide-requires
-wide-requires c κs = search needs
-
 store-requires : tie.Need-store-requires
 store-requires c κs =
-    let b = c .before .before .before .before in
-    let a = b .before .before .before .before .before .args in
+    let b = c .before .before .before in
     let g = call-good 8 _ _ (good (b .before .before)) in
-    let f : c .wide .result < 2 ^ (8 - a .width) = rw (c .wide .ensures) (g .flags) in
-    (g .high, f, omega arith, rw (c .wide .ensures) (omega (arith, many b)))
+    (g .high, g .flags, omega arith, omega (arith, many b))
 
 add-t11 : tie.Need-add-t11
 add-t11 c = search needs
@@ -73,10 +68,9 @@ same-length c = search needs
 
 returns-5 : tie.Need-returns-5
 returns-5 c =
-    let b = c .before .before .before .before .before .before .before in
-    let w = c .before .before .before .wide in
+    let b = c .before .before .before .before .before .before in
     let next = ap (_+_ (b .before .before .before .before .before .args .at)) (sym (many b)) in
-    writes-next _ _ _ _ (bytes b) _ _ (omega (arith, many b)) next (rw (w .ensures) at (c .before .before .store .ensures))
+    writes-next _ _ _ _ (bytes b) _ _ (omega (arith, many b)) next (c .before .before .store .ensures)
 
 pub write-spec : {M : Type 1} → statement M
 write-spec =
@@ -89,7 +83,6 @@ write-spec =
     returns-3
     sub-if4
     returns-4
-    wide-requires
     store-requires
     add-t11
     same-length
