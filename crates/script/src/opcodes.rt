@@ -1,6 +1,7 @@
 // What each opcode's command looks like.
 ghost use mathlib.Core.Path.{_≡_};
 ghost use Prim.Native.Nat.{_≤_};
+ghost use Rattle.script.specs.Shapes.{outAt, othersAt, numbersEnd};
 
 // How many opcodes there are.
 pub const OPCODES: usize = 96;
@@ -246,7 +247,7 @@ pub fn shape_of(op: u8) -> Shape {
 
 // Where the output buffer's numbers begin among the command's: behind the arena's.
 pub fn out_at(s: Shape) -> usize
-    ensures { λ r. ⌜ r ≤ 8 ⌝ }
+    ensures { λ r. ⌜ (r ≡ outAt s) × (r ≤ 8) ⌝ }
 {
     if s.arena {
         return 8;
@@ -256,7 +257,7 @@ pub fn out_at(s: Shape) -> usize
 
 // Where the other numbers begin.
 pub fn others_at(s: Shape) -> usize
-    ensures { λ r. ⌜ r ≤ 24 ⌝ }
+    ensures { λ r. ⌜ (r ≡ othersAt s) × (r ≤ 24) ⌝ }
 {
     let at = out_at(s);
     if s.out {
@@ -267,7 +268,7 @@ pub fn others_at(s: Shape) -> usize
 
 // Where the numbers end.
 pub fn numbers_end(s: Shape) -> usize
-    ensures { λ r. ⌜ r ≤ 96 ⌝ }
+    ensures { λ r. ⌜ (r ≡ numbersEnd s) × (r ≤ 96) ⌝ }
 {
     others_at(s) + 8 * (s.numbers % 10)
 }
