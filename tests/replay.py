@@ -71,10 +71,14 @@ CALLS = [
     ("decode_stateless", 0, 1, "records max", "bytes"),
     ("section_begin", 2, 0, "started dynamic base at used count size", "bytes"),
     ("section_line", 2, 1, "records started dynamic base at used count size", "bytes"),
+    ("open_floor", 1, 0, "dropped inserted low", ""), ("lookup_of", 0, 0, "base absolute", ""),
+    ("with_uses", 1, 0, "place", ""), ("waiting_with", 1, 0, "largest", ""),
+    ("kind_int", 0, 0, "kind at", "bytes"), ("past_limit", 0, 0, "kind value", ""),
+    ("text_ok", 0, 0, "width flags", ""), ("section_new", 0, 0, "", ""),
 ]
 
 # The opcodes that the program replay_leaves takes: calls that need no table.
-LEAVES = {*range(26, 57), *range(60, 64), 85, 86}
+LEAVES = {*range(26, 57), *range(60, 64), 85, 86, *range(100, 103)}
 
 # Words that may stand for a number.
 WORDS = {

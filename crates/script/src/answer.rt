@@ -163,7 +163,7 @@ pub fn written(w: Written) -> Answer {
     }
 }
 
-fn lookup(l: Lookup) -> Answer {
+pub fn lookup(l: Lookup) -> Answer {
     match l {
         Lookup::Static(i) => worded(one(i), STATIC),
         Lookup::Relative { index, absolute } => worded(two(index, absolute), RELATIVE),

@@ -3,6 +3,9 @@ use crate::input;
 use crate::input::ARENA;
 use crate::input::Command;
 
+// The field that holds the streams of the queue's places.
+const PLACE_STREAM: u64 = 16;
+
 // How many elements a field of the record has.
 fn elements(field: u64) -> u64 {
     match field {
@@ -21,6 +24,14 @@ fn past_field(field: u64, index: u64) -> u8 {
         return input::TAKEN;
     }
     input::PAST_FIELD
+}
+
+// Why a place of the queue is not taken: each has one stream.
+fn past_queue(place: u64) -> u8 {
+    if place < elements(PLACE_STREAM) {
+        return input::TAKEN;
+    }
+    input::LARGE_NUMBER
 }
 
 // Why a stretch of an arena is not taken.
@@ -42,6 +53,7 @@ pub fn fault_of(c: Command, len: usize) -> u8 {
         16 => past_field(c.a, c.b),
         17 => past_arena(c.a, len as u64),
         18 => past_arena(c.a, c.b),
+        98 => past_queue(c.a),
         _ => input::TAKEN,
     }
 }

@@ -4,7 +4,7 @@ ghost use Prim.Native.Nat.{_≤_};
 ghost use Rattle.script.specs.Shapes.{outAt, othersAt, numbersEnd};
 
 // How many opcodes there are.
-pub const OPCODES: usize = 96;
+pub const OPCODES: usize = 104;
 
 // For each opcode five digits: whether it has a table (1) and an arena (2), whether an output buffer, how many more numbers, how many strings, and which bounds the first number has.
 const SHAPES: [u16; OPCODES] = [
@@ -200,6 +200,22 @@ const SHAPES: [u16; OPCODES] = [
     20710,
     // section_line
     21810,
+    // open_floor
+    10300,
+    // lookup_of
+    200,
+    // with_uses
+    10100,
+    // waiting_with
+    10100,
+    // kind_int
+    214,
+    // past_limit
+    204,
+    // text_ok
+    200,
+    // section_new
+    0,
 ];
 
 // What a command has, if its opcode is known.

@@ -36,6 +36,8 @@ const STATELESS: u8 = 13;
 
 const PUSHED: u8 = 14;
 
+const NAMED: u8 = 15;
+
 // Each opcode's group.
 const GROUPS: [u8; OPCODES] = [
     0,
@@ -134,6 +136,14 @@ const GROUPS: [u8; OPCODES] = [
     13,
     5,
     5,
+    7,
+    15,
+    8,
+    8,
+    11,
+    11,
+    11,
+    13,
 ];
 
 fn index(x: u8) -> usize {
@@ -192,6 +202,7 @@ fn alone(c: Command, group: u8, name: &[u8], value: &[u8], out: &mut [u8]) {
         CAPACITY => say::say(script_table::capacity(c.a as usize)),
         STATELESS => script_table::stateless(c, name, out),
         PUSHED => say::say(script_table::push_reply(c.a, c.b as usize)),
+        NAMED => say::say(script_table::lookup_of(c.a as usize, c.b as usize)),
         _ => script_leaves::call(c, name, value, out),
     }
 }

@@ -76,6 +76,12 @@ pub fn head(n: u64, lowest: u64) -> Answer {
     answer::two(h.width as usize, wide(h.flags))
 }
 
+// Whether an instruction's integer is past its limit.
+pub fn past_limit(n: u64, value: u64) -> Answer {
+    let past = stream_parts::past_limit(kind_of(n), value);
+    answer::one(answer::bit(past))
+}
+
 // The reference of a kind: static, relative, post-base.
 pub fn reference_of(kind: u64, index: u64) -> Reference {
     match kind {

@@ -1,4 +1,5 @@
 // Integers, strings, the static table and indexes.
+use crate::kinds;
 use prefix_int::IntRead;
 use prefix_int::IntSize;
 use prefix_string::TextRead;
@@ -23,8 +24,7 @@ fn wide(x: u8) -> usize {
     x as usize
 }
 
-pub fn int_read(s: &[u8], at: usize, bits: u64) -> Answer {
-    let r = prefix_int::read(s, at, width(bits));
+fn int_of(r: IntRead) -> Answer {
     match r {
         IntRead::Int {
             flags: above,
@@ -33,6 +33,14 @@ pub fn int_read(s: &[u8], at: usize, bits: u64) -> Answer {
         } => answer::three(wide(above), value as usize, next),
         IntRead::Refused(why) => answer::refused(why),
     }
+}
+
+pub fn int_read(s: &[u8], at: usize, bits: u64) -> Answer {
+    int_of(prefix_int::read(s, at, width(bits)))
+}
+
+pub fn kind_int(s: &[u8], at: usize, kind: u64) -> Answer {
+    int_of(stream_parts::kind_int(s, at, kinds::kind_of(kind)))
 }
 
 fn sized(r: IntSize) -> Answer {
@@ -48,6 +56,11 @@ pub fn int_size(value: u64, bits: u64) -> Answer {
 
 pub fn int_ok(bits: u64, above: u64) -> Answer {
     let ok = prefix_int::call_ok(width(bits), flags(above));
+    answer::one(answer::bit(ok))
+}
+
+pub fn text_ok(bits: u64, above: u64) -> Answer {
+    let ok = text_writing::call_ok(width(bits), flags(above));
     answer::one(answer::bit(ok))
 }
 

@@ -24,6 +24,8 @@ fn asked(c: Command, name: &[u8], value: &[u8]) -> Answer {
         56 => kinds::head(c.a, c.b),
         85 => refusals::number(c.a),
         86 => refusals::ends_early(c.a),
+        101 => kinds::past_limit(c.a, c.b),
+        102 => leaf::text_ok(c.a, c.b),
         _ => leaf::address(op, c.a as usize, c.b as usize, c.c as usize, c.d as usize),
     }
 }
@@ -37,6 +39,7 @@ fn ask(c: Command, name: &[u8], value: &[u8]) -> Answer {
         30 => leaf::text_read(name, at, c.b),
         60 => leaf::text_after(name, at, c.b),
         61 => leaf::texts(name, at, c.b),
+        100 => leaf::kind_int(name, c.b as usize, c.a),
         _ => asked(c, name, value),
     }
 }
@@ -47,6 +50,7 @@ pub fn has(op: u8) -> bool {
         26..=56 => true,
         60..=63 => true,
         85..=86 => true,
+        100..=102 => true,
         _ => false,
     }
 }

@@ -4,7 +4,9 @@ use script::answer;
 use script::answer::Answer;
 use script::input::Command;
 use script::say;
+use tracking::Counted;
 use tracking::Floor;
+use tracking::Noted;
 use tracking::Queue;
 use tracking::Queued;
 use tracking::Section;
@@ -16,6 +18,18 @@ fn floor_of(f: Floor) -> Answer {
 
 pub fn section_floor(s: Section, c: Command) -> Answer {
     floor_of(tracking::section_floor(s, c.a as usize, c.b as usize, c.c as usize))
+}
+
+pub fn open_floor(t: Table, c: Command) -> Answer {
+    let s = t.section;
+    floor_of(call_parts::open_floor(
+        t.active,
+        t.base,
+        s,
+        c.a as usize,
+        c.b as usize,
+        c.c as usize,
+    ))
 }
 
 pub fn queue_floor(q: Queue, c: Command) -> Answer {
@@ -36,6 +50,22 @@ pub fn note(mut t: Table, offset: u64) -> Table {
     s.used = n.used;
     s.uses = noted;
     t.section = s;
+    t
+}
+
+// The section with the uses of a place of the queue.
+pub fn with_uses(mut t: Table, place: u64) -> Table {
+    let q = t.queue;
+    let p = q.places[(place % 32) as usize];
+    let uses = p.uses;
+    let noted = Noted {
+        fits: true,
+        used: p.used,
+        uses,
+    };
+    let s = t.section;
+    t.section = call_parts::with_uses(s, noted);
+    say::say(answer::done());
     t
 }
 
@@ -64,11 +94,20 @@ fn with_waiting(mut t: Table, w: Waiting) -> Table {
     t
 }
 
-pub fn block(t: Table, largest: usize) -> Table {
-    let w = t.waiting;
-    let b = tracking::block(w, largest);
+// The table with blocked values that a call gave.
+fn counted(t: Table, b: Counted) -> Table {
     say::say(answer::one(answer::bit(b.fits)));
     with_waiting(t, b.waiting)
+}
+
+pub fn block(t: Table, largest: usize) -> Table {
+    let w = t.waiting;
+    counted(t, tracking::block(w, largest))
+}
+
+pub fn waiting_with(t: Table, largest: usize) -> Table {
+    let w = t.waiting;
+    counted(t, call_parts::waiting_with(w, t.known, largest))
 }
 
 pub fn let_go(t: Table, known: usize) -> Table {

@@ -46,6 +46,7 @@ pub fn ask(t: Table, c: Command, arena: &[u8], name: &[u8], value: &[u8]) -> Ans
         76 => rings::newest(t.ring, c, arena, name, value),
         78 => held::section_floor(t.section, c),
         79 => held::queue_floor(t.queue, c),
+        96 => held::open_floor(t, c),
         _ => held::waiting_ok(t.waiting),
     }
 }
@@ -60,6 +61,8 @@ pub fn change(t: Table, c: Command, arena: &mut [u8], name: &[u8], value: &[u8])
         80 => held::push(t),
         81 => held::release(t, c.a),
         83 => held::block(t, c.a as usize),
+        98 => held::with_uses(t, c.a),
+        99 => held::waiting_with(t, c.a as usize),
         _ => held::let_go(t, c.a as usize),
     }
 }

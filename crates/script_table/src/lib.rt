@@ -108,12 +108,13 @@ pub fn sections(t: Table, c: Command, arena: &[u8], s: &[u8], out: &mut [u8]) {
     }
 }
 
-// A section, or one step of it, without a table.
+// A section, one step of it or the cursor before it, without a table.
 pub fn stateless(c: Command, s: &[u8], out: &mut [u8]) {
     let op = c.op;
     match op {
         59 => section::stateless(c, s, out),
         93 => section::decode_stateless(c, s, out),
+        103 => step::begin(),
         _ => step::stateless(c, s, out),
     }
 }
@@ -125,6 +126,11 @@ pub fn capacity(n: usize) -> Answer {
         CapacityTest::Within => answer::done(),
         CapacityTest::Refused(why) => answer::refused(why),
     }
+}
+
+// How an entry is named in a section.
+pub fn lookup_of(base: usize, absolute: usize) -> Answer {
+    answer::lookup(call_parts::lookup_of(base, absolute))
 }
 
 // What a push did, by number.

@@ -70,16 +70,23 @@ fn tell(l: Line, out: &[u8], fill: u8) {
     text::end(text::buffer(line, out, fill));
 }
 
+// Writes a cursor.
+fn tell_cursor(c: Cursor) {
+    let line = say::line_of(answer::done());
+    let line = say::values(line, 0, 6, next_of(c));
+    text::end(say::values(line, 0, 1, [c.size; 6]));
+}
+
 // Writes the cursor past a prefix.
 fn tell_begun(b: Begun) {
     match b {
         Begun::Refused(why) => say::say(answer::refused(why)),
-        Begun::At(c) => {
-            let line = say::line_of(answer::done());
-            let line = say::values(line, 0, 6, next_of(c));
-            text::end(say::values(line, 0, 1, [c.size; 6]));
-        }
+        Begun::At(c) => tell_cursor(c),
     }
+}
+
+pub fn begin() {
+    tell_cursor(section_steps::begin());
 }
 
 pub fn begin_on(t: Table, c: Command, arena: &[u8], s: &[u8]) {
