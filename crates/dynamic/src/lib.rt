@@ -257,7 +257,7 @@ impl Table {
     }
 
     // Sets the capacity.
-    pub fn set_capacity(mut self, capacity: usize) -> Replied
+    pub fn set_capacity(self, capacity: usize) -> Replied
         ensures { λ r. ⌜ Keeps self (calls.setCapacity self capacity) r (λ t. model-table.setCapacity t capacity) ⌝ }
     {
         let c = self.checked();
@@ -275,12 +275,13 @@ impl Table {
             return refused(self, Refusal::ShrinkBlocked);
         }
         let ring = cut.ring;
-        self.ring = ring;
-        done(self)
+        let mut next = self;
+        next.ring = ring;
+        done(next)
     }
 
     // Sets the blocked maximum.
-    pub fn set_max_blocked(mut self, most: usize) -> Replied
+    pub fn set_max_blocked(self, most: usize) -> Replied
         ensures { λ r. ⌜ Keeps self (calls.setMost self most) r (λ t. model-table.setBlockedMax t most) ⌝ }
     {
         let c = self.checked();
@@ -293,8 +294,9 @@ impl Table {
         if BLOCKED_SECTIONS <= most {
             return refused(self, Refusal::MaxBlockedStreamsTooLarge);
         }
-        self.most = most;
-        done(self)
+        let mut next = self;
+        next.most = most;
+        done(next)
     }
 
     // Inserts a field that the peer sent, where it can be.
@@ -323,7 +325,7 @@ impl Table {
     }
 
     // Opens a section of a stream.
-    pub fn begin(mut self, stream: u64) -> Replied
+    pub fn begin(self, stream: u64) -> Replied
         ensures { λ r. ⌜ Keeps self (calls.begin self stream) r (λ t. model-section.begin t stream) ⌝ }
     {
         let c = self.checked();
@@ -338,20 +340,21 @@ impl Table {
             offset: 0,
             count: 0,
         };
-        self.active = true;
-        self.base = self.ring.inserted - dropped;
+        let mut next = self;
+        next.active = true;
+        next.base = self.ring.inserted - dropped;
         let section = Section {
             stream,
             from: dropped,
             used: 0,
             uses: [none; SECTION_ENTRIES],
         };
-        self.section = section;
-        done(self)
+        next.section = section;
+        done(next)
     }
 
     // The latest entry of a field, which the open section then uses.
-    pub fn find(mut self, arena: &[u8], name: &[u8], value: &[u8]) -> Looked
+    pub fn find(self, arena: &[u8], name: &[u8], value: &[u8]) -> Looked
         ensures { λ r. ⌜ Finds self (now (arena .entry)) (now (name .entry)) (now (value .entry)) r ⌝ }
     {
         let c = self.checked();
@@ -377,9 +380,10 @@ impl Table {
         if !noted.fits {
             return not_found(self, Refusal::TrackingFull);
         }
-        self.section = with_uses(section, noted);
+        let mut next = self;
+        next.section = with_uses(section, noted);
         Looked {
-            table: self,
+            table: next,
             found: Find::Found(lookup_of(self.base, absolute)),
         }
     }
@@ -466,7 +470,7 @@ impl Table {
     }
 
     // Puts the open section into the queue; largest is its largest reference.
-    pub fn commit(mut self, largest: usize) -> Replied
+    pub fn commit(self, largest: usize) -> Replied
         ensures { λ r. ⌜ Keeps self (calls.commit self largest) r (λ t. model-section.commit t largest) ⌝ }
     {
         let c = self.checked();
@@ -489,14 +493,15 @@ impl Table {
         }
         let waiting = w.waiting;
         let queue = q.queue;
-        self.waiting = waiting;
-        self.queue = queue;
-        self.active = false;
-        done(self)
+        let mut next = self;
+        next.waiting = waiting;
+        next.queue = queue;
+        next.active = false;
+        done(next)
     }
 
     // Closes the open section and gives all its references back.
-    pub fn abandon(mut self) -> Replied
+    pub fn abandon(self) -> Replied
         ensures { λ r. ⌜ Keeps self (calls.abandon self) r (model-section.abandon) ⌝ }
     {
         let c = self.checked();
@@ -506,8 +511,9 @@ impl Table {
         if !self.active {
             return refused(self, Refusal::NoSection);
         }
-        self.active = false;
-        done(self)
+        let mut next = self;
+        next.active = false;
+        done(next)
     }
 
     // The peer acknowledged a section of a stream.
@@ -545,7 +551,7 @@ impl Table {
     }
 
     // The peer received more inserts.
-    pub fn increment(mut self, inserts: usize) -> Replied
+    pub fn increment(self, inserts: usize) -> Replied
         ensures { λ r. ⌜ Keeps self (calls.increment self inserts) r (λ t. model-report.increment t inserts) ⌝ }
     {
         let c = self.checked();
@@ -559,9 +565,10 @@ impl Table {
         if LARGEST_COUNT - known < inserts {
             return refused(self, Refusal::CountTooLarge);
         }
-        self.known = known + inserts;
-        self.waiting = tracking::let_go(self.waiting, known + inserts);
-        done(self)
+        let mut next = self;
+        next.known = known + inserts;
+        next.waiting = tracking::let_go(self.waiting, known + inserts);
+        done(next)
     }
 }
 

@@ -34,8 +34,8 @@ returns-2 c =
     begin-keeps t (z .args .stream) _
     (c .refused2 .ensures ∙ begin-open t (z .args .stream) rules (c .before .if2 .taken))
 
-sub-self : tie.Need-sub-self
-sub-self c =
+sub-next : tie.Need-sub-next
+sub-next c =
     let rules = checked-true _ _ (c .before .before .before .before .checked .ensures) (not-false _ (c .before .before .if1 .left)) in
     kept _ (facts _ rules .ring) .rules .order
 
@@ -59,6 +59,6 @@ begin-spec =
     returns
     refused-requires-2
     returns-2
-    sub-self
+    sub-next
     done-requires
     returns-3)

@@ -55,8 +55,8 @@ returns-3 c =
     increment-keeps t (z .args .inserts) _ (long z)
     (c .refused3 .ensures ∙ increment-past t (z .args .inserts) rules (c .before .before .if2 .left) (omega (arith, facts _ rules .known)))
 
-add-self : tie.Need-add-self
-add-self c = search needs
+add-next : tie.Need-add-next
+add-next c = search needs
 
 add-let-go : tie.Need-add-let-go
 add-let-go c = search needs
@@ -88,7 +88,7 @@ increment-spec =
     sub-if3
     refused-requires-3
     returns-3
-    add-self
+    add-next
     add-let-go
     let-go-requires
     done-requires
