@@ -17,7 +17,7 @@ use Rattle.line_entries.specs.declared.Text.{Text}
 use Rattle.static_table.specs.AppendixA.{appendixA}
 use Rattle.static_table.specs.Static.{laid, cutOf}
 use Rattle.static_table.proofs.Copied.{cut-done}
-use Rattle.static_table.proofs.Text.{cut, cut-length}
+use Rattle.byte_writing.proofs.Stretch.{cut, cut-length}
 use Rattle.section_steps.specs.Section.{lengthOf, Ready}
 
 module _ (t : Text) (p n : ℕ) where

@@ -20,7 +20,7 @@ use Rattle.field_lines.specs.declared.FieldRead.{FieldRead}
 use Rattle.line_entries.specs.declared.Text.{Text}
 use Rattle.static_table.specs.AppendixA.{appendixA}
 use Rattle.static_table.specs.Static.{laid}
-use Rattle.static_table.proofs.Text.{cut-length}
+use Rattle.byte_writing.proofs.Stretch.{cut-length}
 use Rattle.section_steps.specs.Section.{endedOf, foundOf, isOver, largestSum, fits, fieldStep, bytesOf, storedBy, lengthOf, Ready, LineReady}
 use Rattle.section_steps.specs.declared.Cursor.{Cursor}
 use Rattle.section_steps.specs.declared.Line.{Line}

@@ -8,7 +8,7 @@ use lib.Seq.{sets}
 use denote.Ref.{now}
 use borrow.Author.Needs.{needs}
 use Rattle.instructions.specs.Instruction.{stretch}
-use Rattle.static_table.proofs.Text.{put-more, put-end}
+use Rattle.byte_writing.proofs.Stretch.{put-more, put-end}
 use Rattle.section_steps.proofs.copy_input.Statement.{statement}
 use Rattle.section_steps.proofs.copy_input.Tie as tie
 
