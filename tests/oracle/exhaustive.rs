@@ -164,16 +164,10 @@ fn on_copies(p: &mut Pair, from: u64, longest: usize, call: fn(&[u8]) -> Command
     calls(p, longest, |s, out| out.extend([Command::new(op::COPY, 0, &[from], &[]), call(s)]))
 }
 
-/// Up to two bytes, on each table.
-fn on_each(p: &mut Pair, call: fn(&[u8]) -> Command) -> Result<(), Fault> {
+/// Up to a length, on each table; with three bytes about three quarters of an hour.
+fn on_each(p: &mut Pair, longest: usize, call: fn(&[u8]) -> Command) -> Result<(), Fault> {
     tables(p)?;
-    (1..=3).try_for_each(|from| on_copies(p, from, 2, call))
-}
-
-/// Up to three bytes, on the table with entries in use; about half an hour.
-fn on_used(p: &mut Pair, call: fn(&[u8]) -> Command) -> Result<(), Fault> {
-    tables(p)?;
-    on_copies(p, 3, 3, call)
+    (1..=3).try_for_each(|from| on_copies(p, from, longest, call))
 }
 
 fn to_encoder_stream(s: &[u8]) -> Command {
@@ -185,19 +179,19 @@ fn to_decoder_stream(s: &[u8]) -> Command {
 }
 
 fn encoder_streams(p: &mut Pair) -> Result<(), Fault> {
-    on_each(p, to_encoder_stream)
+    on_each(p, 2, to_encoder_stream)
 }
 
 fn decoder_streams(p: &mut Pair) -> Result<(), Fault> {
-    on_each(p, to_decoder_stream)
+    on_each(p, 2, to_decoder_stream)
 }
 
 fn encoder_streams_3(p: &mut Pair) -> Result<(), Fault> {
-    on_used(p, to_encoder_stream)
+    on_each(p, 3, to_encoder_stream)
 }
 
 fn decoder_streams_3(p: &mut Pair) -> Result<(), Fault> {
-    on_used(p, to_decoder_stream)
+    on_each(p, 3, to_decoder_stream)
 }
 
 fn sections(p: &mut Pair) -> Result<(), Fault> {

@@ -11,24 +11,15 @@ use borrow.Author.Tests.{leb-true, ltb-true}
 use Rattle.answers.specs.declared.Refusal.{Refusal}
 use Rattle.answers.specs.declared.Refusal.the-variants.{OutputFull, HeaderTooLong}
 use Rattle.answers.specs.declared.Reply.{Reply}
-use Rattle.answers.proofs.Write.{sets-append}
-use Rattle.arena.proofs.RingRead.{length-ringRead}
 use Rattle.entries.proofs.Chain.{and-left, and-right}
 use Rattle.field.specs.Field.{overhead}
 use Rattle.field_lines.specs.Line.{textIn, TextInside, fieldRead}
 use Rattle.field_lines.specs.declared.FieldRead.{FieldRead}
 use Rattle.line_entries.specs.declared.Text.{Text}
-use Rattle.static_table.specs.AppendixA.{appendixA}
-use Rattle.static_table.specs.Static.{laid}
-use Rattle.byte_writing.proofs.Stretch.{cut-length}
 use Rattle.section_steps.specs.Section.{endedOf, foundOf, isOver, largestSum, fits, fieldStep, bytesOf, storedBy, lengthOf, Ready, LineReady}
 use Rattle.section_steps.specs.declared.Cursor.{Cursor}
 use Rattle.section_steps.specs.declared.Line.{Line}
-
-text-length : (s a : List ℕ) (t : Text) → TextInside (length s) t → length (textIn s a t) ≡ lengthOf t
-text-length s a (Text.Input p n) h = cut-length s p n h
-text-length s a (Text.Fixed p n) h = cut-length (laid appendixA) p n h
-text-length s a (Text.Stored p n) h = length-ringRead a p n
+use Rattle.section_steps.proofs.Copying.{text-length}
 
 -- what fits is within all three
 pub record Fits (room cap : ℕ) (c : Cursor) (n v : ℕ) : Type 0 where
@@ -76,9 +67,6 @@ module _ (most : Option ℕ) (room : ℕ) (s a l : List ℕ) (c : Cursor) (line 
         pub place-full : fits room (length l) c i j ≡ false → y ≡ endedOf (Reply.Refused OutputFull) c → Placed most room s a l l c line y
         place-full h e = record { answer = rw (e, q, first, second, under, h); bytes = rw e }
 
-        pub place-found : fits room (length l) c i j ≡ true → y ≡ foundOf c i j next → (k m : List ℕ)
-            → k ≡ sets l (c .used) (textIn s a n) → m ≡ sets k (c .used + i) (textIn s a v) → Placed most room s a l m c line y
-        place-found h e k m one two =
-            let both : sets (sets l (c .used) (textIn s a n)) (c .used + i) (textIn s a v) ≡ sets l (c .used) (textIn s a n ++ textIn s a v) =
-            rw (← first) (sets-append (textIn s a n) (textIn s a v) l (c .used)) in
-            record { answer = rw (e, q, first, second, under, h); bytes = rw (e, q) (two ∙ rw one both) }
+        pub place-found : fits room (length l) c i j ≡ true → y ≡ foundOf c i j next → (m : List ℕ)
+            → m ≡ sets l (c .used) (textIn s a n ++ textIn s a v) → Placed most room s a l m c line y
+        place-found h e m both = record { answer = rw (e, q, first, second, under, h); bytes = rw (e, q) both }

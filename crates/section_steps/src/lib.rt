@@ -1,5 +1,6 @@
 // One step of a section, RFC 9204 4.5: the prefix or a line, on a table or with none, its strings put into a lent buffer.
 ghost use mathlib.Core.Path.{_≡_};
+ghost use mathlib.Core.List.{_++_};
 ghost use Prim.Native.Nat.{ℕ, _+_, _^_, _<_, _≤_};
 ghost use lib.Dec.{ltb};
 ghost use lib.ListN.{length};
@@ -8,7 +9,6 @@ ghost use Rattle.answers.specs.Answer.{done, andThen};
 ghost use Rattle.field.specs.Field.{overhead};
 ghost use Rattle.field_lines.specs.Line.{textIn, TextInside, fieldRead, liveIn};
 ghost use Rattle.header_prefix.specs.Prefix.{prefixRead};
-ghost use Rattle.instructions.specs.Instruction.{stretch};
 ghost use Rattle.section_steps.specs.Section.{
   onTable,
   stateless,
@@ -224,18 +224,6 @@ fn text_len(text: Text) -> usize
     }
 }
 
-// Some bytes of the section, copied to the buffer.
-fn copy_input(s: &[u8], start: usize, len: usize, out: &mut [u8], at: usize)
-    requires { ⌜ (start + len ≤ length (now s)) × (at + len ≤ length (now out)) ⌝ }
-    ensures { λ _. ⌜ now (out .exit) ≡ sets (now (out .entry)) at (stretch (now (s .entry)) start len) ⌝ }
-{
-    let mut i = 0;
-    while i < len {
-        out[at + i] = s[start + i];
-        i += 1;
-    }
-}
-
 // A string, copied to the buffer.
 fn copy_text(s: &[u8], arena: &[u8], text: Text, out: &mut [u8], at: usize)
     requires { ⌜ TextInside (length (now s)) text × Ready (now arena) text × (at + lengthOf text ≤ length (now out)) ⌝ }
@@ -243,7 +231,7 @@ fn copy_text(s: &[u8], arena: &[u8], text: Text, out: &mut [u8], at: usize)
 {
     match text {
         Text::Input { start, len } => {
-            copy_input(s, start, len, out, at);
+            byte_writing::write(out, at, s, start, len);
         }
         Text::Fixed { start, len } => {
             static_table::copy(out, at, start, len);
@@ -252,6 +240,27 @@ fn copy_text(s: &[u8], arena: &[u8], text: Text, out: &mut [u8], at: usize)
             arena::copy(arena, start, len, out, at);
         }
     }
+}
+
+// A field's two strings, copied to the buffer; by one copy where the value stands behind the name in the static table.
+fn copy_field(s: &[u8], arena: &[u8], name: Text, value: Text, out: &mut [u8], at: usize)
+    requires { ⌜ TextInside (length (now s)) name × TextInside (length (now s)) value × Ready (now arena) name × Ready (now arena) value
+        × (at + (lengthOf name + lengthOf value) ≤ length (now out)) ⌝ }
+    ensures { λ _. ⌜ now (out .exit) ≡ sets (now (out .entry)) at (textIn (now (s .entry)) (now (arena .entry)) name ++ textIn (now (s .entry)) (now (arena .entry)) value) ⌝ }
+{
+    if let Text::Fixed { start, len } = name {
+        if let Text::Fixed {
+            start: behind,
+            len: more,
+        } = value {
+            if start + len == behind {
+                static_table::copy(out, at, start, len + more);
+                return;
+            }
+        }
+    }
+    copy_text(s, arena, name, out, at);
+    copy_text(s, arena, value, out, at + text_len(name));
 }
 
 // The field of a line, stored where it fits.
@@ -279,8 +288,7 @@ fn place(
             if !has_room(room, out.len(), c, n, v) {
                 return ended(Reply::Refused(Refusal::OutputFull), c);
             }
-            copy_text(s, arena, name, out, c.used);
-            copy_text(s, arena, value, out, c.used + n);
+            copy_field(s, arena, name, value, out, c.used);
             found(c, n, v, next)
         }
     }

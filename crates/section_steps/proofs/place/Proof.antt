@@ -85,34 +85,18 @@ returns-2 c =
     let p = place-full (limitOf (a .limit)) (a .room) (now (a .s)) (now (a .arena)) (now (a .out)) (a .c) (a .line) _ _ _ _ (told .before .line2 .given .1) (entry told .pre) _ _ (len .before .text-len .ensures) (len .text-len2 .ensures) (under else) (sym (room .has-room .ensures) ∙ not-true _ (then .if2 .taken)) (c .ended3 .ensures) in
     (p .answer, p .bytes)
 
-copy-text-requires : tie.Need-copy-text-requires
-copy-text-requires c κs =
+copy-field-requires : tie.Need-copy-field-requires
+copy-field-requires c κs =
     let else = c .before in
     let len = at-room else .before .before in
     let told = at-field len in
     let a = entry told .args in
     let r = line-ready (now (a .s)) (now (a .arena)) (a .line) _ _ _ (told .before .line2 .given .1) (entry told .pre) in
-    (r .0, r .2, omega (arith, within else .buffer, len .before .text-len .ensures))
-
-add-copy-text : tie.Need-add-copy-text
-add-copy-text c =
-    let else = c .before .before .before .before .before .before in
-    let z = entry (at-field (at-room else .before .before)) in
-    omega (arith, within else .buffer, z .fits, z .good)
-
-copy-text-requires-2 : tie.Need-copy-text-requires-2
-copy-text-requires-2 c κs =
-    let call = c .before .before .before .before in
-    let else = call .before .before in
-    let len = at-room else .before .before in
-    let told = at-field len in
-    let a = entry told .args in
-    let r = line-ready (now (a .s)) (now (a .arena)) (a .line) _ _ _ (told .before .line2 .given .1) (entry told .pre) in
-    (r .1, r .3, omega (arith, within else .buffer, len .text-len2 .ensures, call .copy-text .kept))
+    (r .0, r .1, r .2, r .3, omega (arith, within else .buffer, len .before .text-len .ensures, len .text-len2 .ensures))
 
 found-requires : tie.Need-found-requires
 found-requires c κs =
-    let else = c .before .before .before .before .before .before .before .before .before in
+    let else = c .before .before .before .before in
     let z = entry (at-field (at-room else .before .before)) in
     (omega (arith, within else .buffer, z .fits, z .good), omega (arith, within else .list, z .fits, z .good), omega (arith, within else .sum))
 
@@ -127,14 +111,13 @@ same-length c = search needs
 
 returns-4 : tie.Need-returns-4
 returns-4 c =
-    let second = c .before .before .before in
-    let call = second .before .before .before .before .before in
+    let call = c .before .before .before in
     let else = call .before .before in
     let len = at-room else .before .before in
     let told = at-field len in
     let a = entry told .args in
-    let p = place-found (limitOf (a .limit)) (a .room) (now (a .s)) (now (a .arena)) (now (a .out)) (a .c) (a .line) _ _ _ _ (told .before .line2 .given .1) (entry told .pre) _ _ (len .before .text-len .ensures) (len .text-len2 .ensures) (under (at-room else)) (has else) (c .found .ensures) _ _
-    (call .copy-text .ensures) (second .copy-text2 .ensures) in
+    let p = place-found (limitOf (a .limit)) (a .room) (now (a .s)) (now (a .arena)) (now (a .out)) (a .c) (a .line) _ _ _ _ (told .before .line2 .given .1) (entry told .pre) _ _ (len .before .text-len .ensures) (len .text-len2 .ensures) (under (at-room else)) (has else) (c .found .ensures) _
+    (call .copy-field .ensures) in
     (p .answer, p .bytes)
 
 pub place-spec : {M : Type 1} → statement M
@@ -152,9 +135,7 @@ place-spec =
     has-room-requires
     ended-requires-3
     returns-2
-    copy-text-requires
-    add-copy-text
-    copy-text-requires-2
+    copy-field-requires
     found-requires
     returns-3
     same-length
