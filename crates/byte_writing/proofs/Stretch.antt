@@ -1,12 +1,14 @@
 -- A stretch of bytes, front by front, and what `write` answers and leaves on each of its ways out. Assumes nothing.
-use mathlib.Core.Path.{_≡_}
+use mathlib.Core.Path.{_≡_, refl, sym}
+use mathlib.Core.Bool.{Bool, true, false}
 use mathlib.Core.List.{List, [], _∷_}
-use Prim.Native.Nat.{ℕ, suc, _+_, _≤_, _<_}
+use Prim.Native.Nat.{ℕ, suc, _+_, _-_, _≤_, _<_}
 use native.Mathlib.Numerals.{add-one}
 use native.Mathlib.Omega.{arith}
+use lib.Dec.{leb}
 use lib.ListN.{length, getD, take, drop, set, length-take, length-drop, drop-of-length-le}
 use lib.Seq.{sets, drop-cons, getD-take, getD-drop, take-length}
-use borrow.Author.Tests.{le-leb, lt-leb}
+use borrow.Author.Tests.{le-leb, lt-leb, leb-true, leb-false}
 use Rattle.answers.specs.Answer.{done, refused}
 use Rattle.answers.specs.Write.{written, Writes}
 use Rattle.answers.specs.declared.Refusal.the-variants.{BadCall, OutputFull}
@@ -14,6 +16,14 @@ use Rattle.answers.specs.declared.Written.{Written}
 use Rattle.answers.specs.declared.Written.the-variants.{Next, Refused}
 use Rattle.answers.proofs.Write.{writes-refused, writes-full, writes-next, writes-sets}
 use Rattle.byte_writing.specs.Stretch.{stretchOf}
+
+-- a test of the start alone, where the length is not past the end
+pub ends-inside : (size start len : ℕ) → len ≤ size → leb start (size - len) ≡ leb (start + len) size
+ends-inside size start len h = go (leb start (size - len)) refl
+  where
+    go : (b : Bool) → leb start (size - len) ≡ b → b ≡ leb (start + len) size
+    go true e = sym (le-leb (start + len) size (omega (arith, leb-true start (size - len) e)))
+    go false e = sym (lt-leb (start + len) size (omega (arith, leb-false start (size - len) e)))
 
 abbrev pub cut : List ℕ → ℕ → ℕ → List ℕ
 cut b start len = take len (drop start b)
