@@ -75,10 +75,11 @@ CALLS = [
     ("with_uses", 1, 0, "place", ""), ("waiting_with", 1, 0, "largest", ""),
     ("kind_int", 0, 0, "kind at", "bytes"), ("past_limit", 0, 0, "kind value", ""),
     ("text_ok", 0, 0, "width flags", ""), ("section_new", 0, 0, "", ""),
+    ("byte_write", 0, 1, "at start len", "bytes"),
 ]
 
 # The opcodes that the program replay_leaves takes: calls that need no table.
-LEAVES = {*range(26, 57), *range(60, 64), 85, 86, *range(100, 103)}
+LEAVES = {*range(26, 57), *range(60, 64), 85, 86, *range(100, 103), 104}
 
 # Words that may stand for a number.
 WORDS = {

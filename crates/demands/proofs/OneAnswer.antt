@@ -14,7 +14,7 @@
 -- | decode_header_listed, decode_stateless_listed (listed) | Lists | one-listed |
 -- | next_on, next_stateless, line_on (section_steps) | r ≡ lineOf .. or lineIn .., out ≡ outOf .. or outIn .. | one-step |
 -- | begin_on (section_steps) | begunBy r ≡ .. | one-begun (Meanings) |
--- | every writer: prefix_int, prefix_string, shapes, stream, block; static_table::copy, arena::copy | Writes | one-write |
+-- | every writer: prefix_int, prefix_string, shapes, stream, block; byte_writing::write, static_table::copy, arena::copy | Writes | one-write |
 -- | Ring: push | Pushes | one-push |
 -- | prefix_int: read, size; stream_parts: kind_int; prefix_string: read, size | intRead, textRead, intSize r ≡ .. | one-int, one-text, one-size (Meanings) |
 -- | shapes: text_after, texts | intTextRead, textsRead r ≡ .. | one-int-text, one-texts (Meanings) |

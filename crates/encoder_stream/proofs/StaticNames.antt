@@ -18,7 +18,7 @@ use Rattle.static_table.specs.AppendixA.{appendixA}
 use Rattle.static_table.specs.Static.{Place, noField, placeOf, laid, entryAt, cutOf}
 use Rattle.static_table.proofs.Copied.{cut-done}
 use Rattle.static_table.proofs.Table.{entries, Placed, entry-placed}
-use Rattle.static_table.proofs.Text.{cut, cut-length}
+use Rattle.byte_writing.proofs.Stretch.{cut, cut-length}
 use Rattle.encoder_stream.specs.Entries.{staticName}
 use Rattle.encoder_stream.proofs.Front.{sets-front}
 

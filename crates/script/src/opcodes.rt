@@ -4,7 +4,7 @@ ghost use Prim.Native.Nat.{_≤_};
 ghost use Rattle.script.specs.Shapes.{outAt, othersAt, numbersEnd};
 
 // How many opcodes there are.
-pub const OPCODES: usize = 104;
+pub const OPCODES: usize = 105;
 
 // For each opcode five digits: whether it has a table (1) and an arena (2), whether an output buffer, how many more numbers, how many strings, and which bounds the first number has.
 const SHAPES: [u16; OPCODES] = [
@@ -216,6 +216,8 @@ const SHAPES: [u16; OPCODES] = [
     200,
     // section_new
     0,
+    // byte_write
+    1310,
 ];
 
 // What a command has, if its opcode is known.

@@ -144,6 +144,7 @@ const GROUPS: [u8; OPCODES] = [
     11,
     11,
     13,
+    11,
 ];
 
 fn index(x: u8) -> usize {

@@ -51,6 +51,7 @@ pub fn has(op: u8) -> bool {
         60..=63 => true,
         85..=86 => true,
         100..=102 => true,
+        104 => true,
         _ => false,
     }
 }
@@ -66,6 +67,7 @@ pub fn call(c: Command, name: &[u8], value: &[u8], out: &mut [u8]) {
         36 => writers::write(c, name, value, out),
         45..=51 => writers::write(c, name, value, out),
         62..=63 => writers::write(c, name, value, out),
+        104 => writers::write(c, name, value, out),
         _ => say::say(ask(c, name, value)),
     }
 }

@@ -8,13 +8,14 @@ use script::input::Command;
 use script::say;
 use script::text;
 
-// The writers of integers, strings and the static table's bytes.
+// The writers of integers, strings, a stretch of bytes and the static table's bytes.
 fn leaf(buf: &mut [u8], c: Command, s: &[u8]) -> Written {
     let op = c.op;
     let at = c.a as usize;
     match op {
         29 => prefix_int::write(buf, at, width(c.b), flags(c.c), c.d),
         32 => prefix_string::write(buf, at, width(c.b), flags(c.c), s),
+        104 => byte_writing::write(buf, at, s, c.b as usize, c.c as usize),
         _ => static_table::copy(buf, at, c.b as usize, c.c as usize),
     }
 }
@@ -55,7 +56,8 @@ fn any(buf: &mut [u8], c: Command, name: &[u8], value: &[u8]) -> Written {
         0..=36 => leaf(buf, c, name),
         37..=47 => instruction(buf, c, name, value),
         48..=59 => line(buf, c, name, value),
-        60..=255 => shape(buf, c, name, value),
+        60..=103 => shape(buf, c, name, value),
+        104..=255 => leaf(buf, c, name),
     }
 }
 

@@ -12,13 +12,14 @@ use Rattle.answers.specs.declared.Written.{Written}
 use Rattle.answers.proofs.Write.{writes-sets, sets-append}
 use Rattle.arena.specs.Ring.{longEnough, ringRead, ringCut}
 use Rattle.arena.proofs.RingRead.{length-ringRead}
+use Rattle.byte_writing.specs.Stretch.{stretchOf}
+use Rattle.byte_writing.proofs.Stretch.{cut, cut-length, write-sets}
 use Rattle.field_lines.specs.Line.{textIn, TextInside}
 use Rattle.line_entries.specs.declared.Text.{Text}
 use Rattle.static_table.specs.AppendixA.{appendixA}
 use Rattle.static_table.specs.Static.{laid, cutOf}
 use Rattle.static_table.proofs.Copied.{cut-done}
 use Rattle.static_table.proofs.Table.{size}
-use Rattle.static_table.proofs.Text.{cut, cut-length}
 use Rattle.section_steps.specs.Section.{lengthOf, Ready}
 
 pub text-length : (s a : List ℕ) (t : Text) → TextInside (length s) t → length (textIn s a t) ≡ lengthOf t
@@ -26,30 +27,30 @@ text-length s a (Text.Input p n) h = cut-length s p n h
 text-length s a (Text.Fixed p n) h = cut-length (laid appendixA) p n h
 text-length s a (Text.Stored p n) h = length-ringRead a p n
 
-module _ (t : Text) (p n : ℕ) where
-  pub input-ready : (m at k : ℕ) → t ≡ Text.Input p n → TextInside m t → at + lengthOf t ≤ k → (p + n ≤ m) × (at + n ≤ k)
-  input-ready m at k e h g = (rw e at h, rw e at g)
+module _ (t : Text) (p n : ℕ) (s a l : List ℕ) (at : ℕ) (m : List ℕ) where
+  pub input-copied : t ≡ Text.Input p n → TextInside (length s) t → at + lengthOf t ≤ length l → (r : Written) → Writes (stretchOf s p n) l at r m
+      → m ≡ sets l at (textIn s a t)
+  input-copied e h g r w =
+      let inside : p + n ≤ length s = rw e at h in
+      let room : at + n ≤ length l = rw e at g in
+      rw e (write-sets s p n l at inside r m room w .1)
 
-  module _ (s a l : List ℕ) (at : ℕ) (m : List ℕ) where
-    pub input-copied : t ≡ Text.Input p n → m ≡ sets l at (textIn s a (Text.Input p n)) → m ≡ sets l at (textIn s a t)
-    input-copied e w = rw e w
+  pub fixed-copied : t ≡ Text.Fixed p n → (k : ℕ) → TextInside k t → at + lengthOf t ≤ length l → (r : Written) → Writes (cutOf p n) l at r m
+      → m ≡ sets l at (textIn s a t)
+  fixed-copied e k h g r w =
+      let inside : p + n ≤ length (laid appendixA) = rw e at h in
+      let room : at + n ≤ length l = rw e at g in
+      let sized : length (cut (laid appendixA) p n) ≡ n = cut-length (laid appendixA) p n inside in
+      let v : Writes (done (cut (laid appendixA) p n)) l at r m = rw (cut-done p n inside) at w in
+      rw e (writes-sets (cut (laid appendixA) p n) l at r m (omega (arith, sized)) v .1)
 
-    pub fixed-copied : t ≡ Text.Fixed p n → (k : ℕ) → TextInside k t → at + lengthOf t ≤ length l → (r : Written) → Writes (cutOf p n) l at r m
-        → m ≡ sets l at (textIn s a t)
-    fixed-copied e k h g r w =
-        let inside : p + n ≤ length (laid appendixA) = rw e at h in
-        let room : at + n ≤ length l = rw e at g in
-        let sized : length (cut (laid appendixA) p n) ≡ n = cut-length (laid appendixA) p n inside in
-        let v : Writes (done (cut (laid appendixA) p n)) l at r m = rw (cut-done p n inside) at w in
-        rw e (writes-sets (cut (laid appendixA) p n) l at r m (omega (arith, sized)) v .1)
-
-    pub stored-copied : t ≡ Text.Stored p n → Ready a t → at + lengthOf t ≤ length l → (r : Written) → Writes (ringCut a p n) l at r m
-        → m ≡ sets l at (textIn s a t)
-    stored-copied e h g r w =
-        let long : longEnough a ≡ true = rw e at h in
-        let room : at + n ≤ length l = rw e at g in
-        let v : Writes (done (ringRead a p n)) l at r m = rw long at w in
-        rw e (writes-sets (ringRead a p n) l at r m (omega (arith, length-ringRead a p n)) v .1)
+  pub stored-copied : t ≡ Text.Stored p n → Ready a t → at + lengthOf t ≤ length l → (r : Written) → Writes (ringCut a p n) l at r m
+      → m ≡ sets l at (textIn s a t)
+  stored-copied e h g r w =
+      let long : longEnough a ≡ true = rw e at h in
+      let room : at + n ≤ length l = rw e at g in
+      let v : Writes (done (ringRead a p n)) l at r m = rw long at w in
+      rw e (writes-sets (ringRead a p n) l at r m (omega (arith, length-ringRead a p n)) v .1)
 
 -- a field's two strings under other names: they are as ready, and two copies store them
 module _ (name value x y : Text) (ex : x ≡ name) (ey : y ≡ value) (s a : List ℕ) (at : ℕ) where

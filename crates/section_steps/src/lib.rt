@@ -9,7 +9,6 @@ ghost use Rattle.answers.specs.Answer.{done, andThen};
 ghost use Rattle.field.specs.Field.{overhead};
 ghost use Rattle.field_lines.specs.Line.{textIn, TextInside, fieldRead, liveIn};
 ghost use Rattle.header_prefix.specs.Prefix.{prefixRead};
-ghost use Rattle.instructions.specs.Instruction.{stretch};
 ghost use Rattle.section_steps.specs.Section.{
   onTable,
   stateless,
@@ -225,18 +224,6 @@ fn text_len(text: Text) -> usize
     }
 }
 
-// Some bytes of the section, copied to the buffer.
-fn copy_input(s: &[u8], start: usize, len: usize, out: &mut [u8], at: usize)
-    requires { ⌜ (start + len ≤ length (now s)) × (at + len ≤ length (now out)) ⌝ }
-    ensures { λ _. ⌜ now (out .exit) ≡ sets (now (out .entry)) at (stretch (now (s .entry)) start len) ⌝ }
-{
-    let mut i = 0;
-    while i < len {
-        out[at + i] = s[start + i];
-        i += 1;
-    }
-}
-
 // A string, copied to the buffer.
 fn copy_text(s: &[u8], arena: &[u8], text: Text, out: &mut [u8], at: usize)
     requires { ⌜ TextInside (length (now s)) text × Ready (now arena) text × (at + lengthOf text ≤ length (now out)) ⌝ }
@@ -244,7 +231,7 @@ fn copy_text(s: &[u8], arena: &[u8], text: Text, out: &mut [u8], at: usize)
 {
     match text {
         Text::Input { start, len } => {
-            copy_input(s, start, len, out, at);
+            byte_writing::write(out, at, s, start, len);
         }
         Text::Fixed { start, len } => {
             static_table::copy(out, at, start, len);

@@ -8,13 +8,13 @@ use lib.Dec.{ltb, leb}
 use lib.ListN.{length, getD, take, drop, length-append, List·getD-map}
 use lib.Seq.{drop-append-add, drop-drop, drop-at, take-at}
 use borrow.Author.Tests.{ltb-true, leb-true, lt-ltb, le-ltb}
+use Rattle.byte_writing.proofs.Stretch.{cut}
 use Rattle.field.specs.Field.{Field}
 use Rattle.answers.specs.Answer.{done, refused}
 use Rattle.answers.specs.declared.Refusal.the-variants.{InvalidStaticIndex}
 use Rattle.static_table.specs.AppendixA.{appendixA}
 use Rattle.static_table.specs.Arrays.{startsFrom, nameLengths, valueLengths, Lent}
 use Rattle.static_table.specs.Static.{laid, noField, Place, placeOf, entryAt}
-use Rattle.static_table.proofs.Text.{cut}
 
 -- ---- any list of fields
 

@@ -1,4 +1,4 @@
--- A stretch of bytes, compared with a text and copied, one byte after the other. Assumes nothing.
+-- A stretch of bytes, compared with a text, one byte after the other. Assumes nothing.
 use mathlib.Core.Path.{_≡_, refl, ap, _∙_}
 use mathlib.Core.Bool.{Bool, true, false, _&&_}
 use mathlib.Core.List.{List, [], _∷_}
@@ -6,13 +6,11 @@ use Prim.Native.Nat.{ℕ, suc, _+_, _≤_, _<_}
 use native.Mathlib.Numerals.{add-one}
 use native.Mathlib.Omega.{arith}
 use lib.Dec.{eqb}
-use lib.ListN.{length, getD, take, drop, set, length-take, length-drop, drop-of-length-le}
-use lib.Seq.{sets, drop-cons, getD-take, getD-drop}
+use lib.ListN.{length, getD, drop, drop-of-length-le}
+use lib.Seq.{drop-cons}
 use borrow.Author.Tests.{eq-eqb, ne-eqb}
 use Rattle.field.specs.Field.{same}
-
-abbrev pub cut : List ℕ → ℕ → ℕ → List ℕ
-cut b start len = take len (drop start b)
+use Rattle.byte_writing.proofs.Stretch.{cut, cut-length, cut-front, cut-end}
 
 shorter : (a b : List ℕ) → (length a ≡ length b → ⊥) → same a b ≡ false
 shorter [] [] h = absurd (h refl)
@@ -24,47 +22,25 @@ shorter (x ∷ a) (y ∷ b) h = go (eqb x y) (shorter a b (λ e. h (ap suc e)))
     go true r = r
     go false r = refl
 
-module _ (b : List ℕ) (start len : ℕ) (inside : start + len ≤ length b) where
-  pub cut-length : length (cut b start len) ≡ len
-  cut-length = simp (length-take, length-drop) (omega arith)
+module _ (b : List ℕ) (start len : ℕ) (inside : start + len ≤ length b) (text : List ℕ) where
+  pub other-length : (length text ≡ len → ⊥) → same text (cut b start len) ≡ false
+  other-length h = shorter text _ (λ e. h (e ∙ cut-length b start len inside))
 
-  cut-front : (i : ℕ) → i < len → drop i (cut b start len) ≡ getD b (start + i) 0 ∷ drop (i + 1) (cut b start len)
-  cut-front i h =
-      let k : i < length (cut b start len) = omega (arith, cut-length) in
-      rw (drop-cons (cut b start len) i 0 k, getD-take, getD-drop, add-one)
+  module _ (long : length text ≡ len) (i : ℕ) where
+    front : i < len → drop i text ≡ getD text i 0 ∷ drop (i + 1) text
+    front h =
+        let k : i < length text = omega arith in
+        rw (drop-cons text i 0 k, add-one)
 
-  cut-end : (i : ℕ) → len ≤ i → drop i (cut b start len) ≡ []
-  cut-end i h = drop-of-length-le (cut b start len) {i = i} (omega (arith, cut-length))
+    -- a byte that is the same, one that is another, and no more bytes
+    pub same-byte : i < len → getD text i 0 ≡ getD b (start + i) 0
+        → same (drop (i + 1) text) (drop (i + 1) (cut b start len)) ≡ same (drop i text) (drop i (cut b start len))
+    same-byte h e = rw (front h, cut-front b start len inside i h, eq-eqb _ _ e)
 
-  -- one byte of a copy, and its end
-  pub put-more : (l : List ℕ) (at i : ℕ) → i < len
-      → sets (set l (at + i) (getD b (start + i) 0)) (at + (i + 1)) (drop (i + 1) (cut b start len)) ≡ sets l (at + i) (drop i (cut b start len))
-  put-more l at i h =
-      let e : at + suc i ≡ suc (at + i) = omega arith in
-      rw (cut-front i h, add-one, e)
+    pub other-byte : i < len → (getD text i 0 ≡ getD b (start + i) 0 → ⊥) → same (drop i text) (drop i (cut b start len)) ≡ false
+    other-byte h e = rw (front h, cut-front b start len inside i h, ne-eqb _ _ e)
 
-  pub put-end : (l : List ℕ) (at i : ℕ) → len ≤ i → sets l at (drop i (cut b start len)) ≡ l
-  put-end l at i h = rw (cut-end i h)
-
-  module _ (text : List ℕ) where
-    pub other-length : (length text ≡ len → ⊥) → same text (cut b start len) ≡ false
-    other-length h = shorter text _ (λ e. h (e ∙ cut-length))
-
-    module _ (long : length text ≡ len) (i : ℕ) where
-      front : i < len → drop i text ≡ getD text i 0 ∷ drop (i + 1) text
-      front h =
-          let k : i < length text = omega arith in
-          rw (drop-cons text i 0 k, add-one)
-
-      -- a byte that is the same, one that is another, and no more bytes
-      pub same-byte : i < len → getD text i 0 ≡ getD b (start + i) 0
-          → same (drop (i + 1) text) (drop (i + 1) (cut b start len)) ≡ same (drop i text) (drop i (cut b start len))
-      same-byte h e = rw (front h, cut-front i h, eq-eqb _ _ e)
-
-      pub other-byte : i < len → (getD text i 0 ≡ getD b (start + i) 0 → ⊥) → same (drop i text) (drop i (cut b start len)) ≡ false
-      other-byte h e = rw (front h, cut-front i h, ne-eqb _ _ e)
-
-      pub same-end : len ≤ i → same (drop i text) (drop i (cut b start len)) ≡ true
-      same-end h =
-          let e : drop i text ≡ [] = drop-of-length-le text {i = i} (omega arith) in
-          rw (e, cut-end i h)
+    pub same-end : len ≤ i → same (drop i text) (drop i (cut b start len)) ≡ true
+    same-end h =
+        let e : drop i text ≡ [] = drop-of-length-le text {i = i} (omega arith) in
+        rw (e, cut-end b start len inside i h)

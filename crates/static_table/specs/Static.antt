@@ -2,11 +2,12 @@
 use mathlib.Core.Bool.{Bool, cond}
 use mathlib.Core.List.{List, [], _∷_, _++_}
 use mathlib.Core.Option.{Option, some, none}
-use Prim.Native.Nat.{ℕ, suc, _+_}
-use lib.Dec.{ltb, leb}
-use lib.ListN.{length, getD, take, drop}
+use Prim.Native.Nat.{ℕ, suc}
+use lib.Dec.{ltb}
+use lib.ListN.{length, getD, take}
 use Rattle.answers.specs.Answer.{Answer, done, refused}
-use Rattle.answers.specs.declared.Refusal.the-variants.{InvalidStaticIndex, BadCall}
+use Rattle.answers.specs.declared.Refusal.the-variants.{InvalidStaticIndex}
+use Rattle.byte_writing.specs.Stretch.{stretchOf}
 use Rattle.field.specs.Field.{Field, same, equal}
 use Rattle.static_table.specs.AppendixA.{appendixA}
 use Rattle.static_table.specs.declared.StaticGot.{StaticGot}
@@ -61,5 +62,4 @@ found Nothing = none
 
 -- some bytes of the table, if all of them lie inside
 unfoldable pub cutOf : ℕ → ℕ → Answer (List ℕ)
-cutOf start n =
-    cond (leb (start + n) (length (laid appendixA))) (done (take n (drop start (laid appendixA)))) (refused BadCall)
+cutOf start n = stretchOf (laid appendixA) start n

@@ -2,7 +2,6 @@
 ghost use mathlib.Core.Path.{_≡_};
 ghost use Prim.Native.Nat.{_+_, _≤_, _<_};
 ghost use lib.ListN.{length, getD, take, drop};
-ghost use lib.Seq.{sets};
 ghost use Rattle.answers.specs.Write.{Writes};
 ghost use Rattle.field.specs.Field.{same, equal};
 ghost use Rattle.static_table.specs.AppendixA.{appendixA};
@@ -2539,35 +2538,10 @@ pub fn find_name(name: &[u8]) -> StaticFound
     search_name(&b, &s, &n, name)
 }
 
-// The len bytes from start on, written to a buffer.
-fn put(buf: &mut [u8], at: usize, bytes: &[u8], start: usize, len: usize)
-    requires { ⌜ (start + len ≤ length (now bytes)) × (at + len ≤ length (now buf)) ⌝ }
-    ensures { λ r. ⌜ now (buf .exit) ≡ sets (now (buf .entry)) at (take len (drop start (now (bytes .entry)))) ⌝ }
-{
-    let mut k = 0;
-    while k < len {
-        buf[at + k] = bytes[start + k];
-        k += 1;
-    }
-}
-
 // Bytes of the table, written to a buffer: len of them from start on.
 pub fn copy(buf: &mut [u8], at: usize, start: usize, len: usize) -> Written
     ensures { λ r. ⌜ Writes (cutOf start len) (now (buf .entry)) at r (now (buf .exit)) ⌝ }
 {
-    if SIZE < len {
-        return Written::Refused(Refusal::BadCall);
-    }
-    if SIZE - len < start {
-        return Written::Refused(Refusal::BadCall);
-    }
-    if buf.len() < len {
-        return Written::Refused(Refusal::OutputFull);
-    }
-    if buf.len() - len < at {
-        return Written::Refused(Refusal::OutputFull);
-    }
     let b = bytes();
-    put(buf, at, &b, start, len);
-    Written::Next(at + len)
+    byte_writing::write(buf, at, &b, start, len)
 }

@@ -1,15 +1,13 @@
--- Laws of plain strings: when a call is good, how many bytes a string takes, and one step of a copy. Assumes nothing.
+-- Laws of plain strings: when a call is good and how many bytes a string takes. Assumes nothing.
 use mathlib.Core.Path.{_≡_, refl, sym, ap, _∙_}
 use mathlib.Core.Bool.{Bool, true, false, cond}
 use mathlib.Core.List.{List}
 use Prim.Native.Nat.{ℕ, suc, _+_, _-_, _*_, _/_, _^_, _<_}
 use native.Mathlib.Nat.{pow-suc, div-eq-of-lt, div-add-mod', mod-lt}
-use native.Mathlib.Numerals.{add-one}
 use native.Mathlib.Omega.{arith}
 use lib.Dec.{ltb, eqb}
-use lib.ListN.{length, getD, drop, set, length-append}
+use lib.ListN.{length, length-append}
 use lib.Pow.{pow-pos}
-use lib.Seq.{sets, drop-cons}
 use borrow.Author.Tests.{ltb-true, ltb-false, eq-eqb, ne-eqb}
 use Rattle.answers.specs.Answer.{done, refused, andThen}
 use Rattle.answers.specs.declared.Refusal.the-variants.{BadCall}
@@ -82,12 +80,3 @@ module _ (n f : ℕ) (t : List ℕ) (small : length t < 2 ^ 63) where
       let s = sized (textBytes n f t) k (sym text-size ∙ h) in
       let b = text-bytes n f t (s .bytes) (s .given) in
       record { good = b .0; given = s .given ∙ ap done (b .1); many = ap length (sym (b .1)) ∙ s .many }
-
--- ---- a copy
-
--- one byte of a copy
-pub copy-more : (l : List ℕ) (from i : ℕ) (t : List ℕ) → i < length t
-    → sets (set l (from + i) (getD t i 0)) (from + (i + 1)) (drop (i + 1) t) ≡ sets l (from + i) (drop i t)
-copy-more l from i t h =
-    let e : from + suc i ≡ suc (from + i) = omega arith in
-    rw (drop-cons t i 0 h, add-one, e)

@@ -38,18 +38,6 @@ pub fn size(len: usize, width: u32, flags: u8) -> IntSize
     }
 }
 
-// The bytes of a text, written from a position.
-fn copy(buf: &mut [u8], from: usize, text: &[u8])
-    requires { ⌜ from + length (now text) ≤ length (now buf) ⌝ }
-    ensures { λ r. ⌜ now (buf .exit) ≡ sets (now (buf .entry)) from (now (text .entry)) ⌝ }
-{
-    let mut i = 0;
-    while i < text.len() {
-        buf[from + i] = text[i];
-        i += 1;
-    }
-}
-
 // A string, written from a position: the call is good, and there is room.
 fn store(buf: &mut [u8], at: usize, width: u32, flags: u8, text: &[u8])
     requires { ⌜ (goodText width flags ≡ true) × (at + length (plain width flags (now text)) ≤ length (now buf)) ⌝ }
@@ -59,7 +47,7 @@ fn store(buf: &mut [u8], at: usize, width: u32, flags: u8, text: &[u8])
     let Written::Next(start) = prefix_int::write(buf, at, width, flags * 2, m as u64) else {
         return;
     };
-    copy(buf, start, text);
+    byte_writing::write(buf, start, text, 0, m);
 }
 
 // A string with flags above its H bit, which is not set.

@@ -1,7 +1,7 @@
 -- `section_steps::copy_text`: by where the string stands. Assumes nothing.
 use lib.ListN.{length}
 use denote.Ref.{now}
-use Rattle.section_steps.proofs.Copying.{input-ready, input-copied, fixed-copied, stored-copied}
+use Rattle.section_steps.proofs.Copying.{input-copied, fixed-copied, stored-copied}
 use borrow.Author.Needs.{needs}
 use Rattle.section_steps.proofs.copy_text.Statement.{statement}
 use Rattle.section_steps.proofs.copy_text.Tie as tie
@@ -9,11 +9,8 @@ use Rattle.section_steps.proofs.copy_text.Tie as tie
 enum-known-text : tie.Need-enum-known-text
 enum-known-text c = search needs
 
-copy-input-requires : tie.Need-copy-input-requires
-copy-input-requires c κs =
-    let z = c .before .before .before .before .before .before .before in
-    let a = z .args in
-    input-ready (a .text) _ _ (length (now (a .s))) (a .at) (length (now (a .out))) (c .before .before .text .given .1) (z .pre .0) (z .pre .2)
+write-requires : tie.Need-write-requires
+write-requires c κs = search needs
 
 enum-known-text-2 : tie.Need-enum-known-text-2
 enum-known-text-2 c = search needs
@@ -34,8 +31,10 @@ returns : tie.Need-returns
 returns c =
     let call = c .before .before in
     let told = call .before .before in
-    let a = told .before .before .before .before .before .before .args in
-    input-copied (a .text) _ _ (now (a .s)) (now (a .arena)) (now (a .out)) (a .at) _ (told .before .text .given .1) (call .copy-input .ensures)
+    let z = told .before .before .before .before .before .before in
+    let a = z .args in
+    input-copied (a .text) _ _ (now (a .s)) (now (a .arena)) (now (a .out)) (a .at) _ (told .before .text .given .1) (z .pre .0) (z .pre .2)
+    (call .write .result) (call .write .ensures)
 
 same-length-2 : tie.Need-same-length-2
 same-length-2 c = search needs
@@ -66,7 +65,7 @@ copy-text-spec =
     tie.close
     (tie.spec
     enum-known-text
-    copy-input-requires
+    write-requires
     enum-known-text-2
     copy-requires
     enum-known-text-3

@@ -6,7 +6,8 @@ use lib.ListN.{drop}
 use borrow.Author.Needs.{needs}
 use denote.Ref.{now}
 use Rattle.field.specs.Field.{same}
-use Rattle.static_table.proofs.Text.{cut, other-length, same-byte, other-byte, same-end}
+use Rattle.byte_writing.proofs.Stretch.{cut}
+use Rattle.static_table.proofs.Text.{other-length, same-byte, other-byte, same-end}
 use Rattle.static_table.proofs.text_is.Statement.{statement}
 use Rattle.static_table.proofs.text_is.Tie as tie
 

@@ -10,6 +10,7 @@ use denote.Ref.{now}
 use borrow.Author.Needs.{needs}
 use Rattle.answers.specs.declared.Written.the-variants.{Next}
 use Rattle.answers.proofs.Write.{sets-append}
+use Rattle.byte_writing.proofs.Stretch.{text-sets}
 use Rattle.prefix_int.specs.Integer.{encode}
 use Rattle.int_writing.proofs.Writers.{writes-stored}
 use Rattle.int_writing.proofs.Writing.{bytes-good, call-good, good-call}
@@ -73,10 +74,8 @@ start c =
     let q = stored (c .before .before .before .before) .0 in
     cc
 
-copy-requires : tie.Need-copy-requires
-copy-requires c κs =
-    let w = c .before .before .before .before .before .before in
-    omega (arith, start (c .before .before), room w, w .write .kept .0)
+write-requires-2 : tie.Need-write-requires-2
+write-requires-2 c κs = search needs
 
 same-length-2 : tie.Need-same-length-2
 same-length-2 c = search needs
@@ -87,7 +86,8 @@ returns-2 c =
     let w = d .before .before .before .before in
     let a = w .before .before .before .before .args in
     let t = now (a .text) in
-    c .before .before .copy .ensures
+    let there : d .start .given .0 .0 + length t ≤ length (w .write .last .0) = omega (arith, start d, room w, w .write .kept .0) in
+    text-sets t _ _ _ _ there (c .before .before .write2 .ensures) .1
     ∙ ap₂ (λ (l : List ℕ) (k : ℕ). sets l k t) (stored w .1) (start d)
     ∙ sets-append (encode (a .width) (a .flags * 2) (length t)) t (now (a .buf)) (a .at)
 
@@ -101,6 +101,6 @@ store-spec =
     enum-told
     same-length
     returns
-    copy-requires
+    write-requires-2
     same-length-2
     returns-2)

@@ -1,4 +1,4 @@
--- `static_table::put`. The invariant: storing what is left gives the list that storing all gives. Assumes nothing.
+-- `byte_writing::put`. The invariant: storing what is left gives the list that storing all gives. Assumes nothing.
 use mathlib.Core.Path.{_≡_, refl, sym, _∙_}
 use Prim.Native.Nat.{_+_, _-_, _≤_}
 use native.Mathlib.Nat.{add-zero}
@@ -7,18 +7,18 @@ use lib.ListN.{length, drop, length-set}
 use lib.Seq.{sets}
 use borrow.Author.Needs.{needs}
 use denote.Ref.{now}
-use Rattle.static_table.proofs.Text.{cut, put-more, put-end}
-use Rattle.static_table.proofs.put.Statement.{statement}
-use Rattle.static_table.proofs.put.Tie as tie
+use Rattle.byte_writing.proofs.Stretch.{cut, put-more, put-end}
+use Rattle.byte_writing.proofs.put.Statement.{statement}
+use Rattle.byte_writing.proofs.put.Tie as tie
 
 abbrev Inv-loop : tie.InvT-loop
-Inv-loop buf₀ at bytes start len k₀ buf k =
+Inv-loop buf₀ at from start len k₀ buf k =
     (k ≤ len)
     × (length buf ≡ length buf₀)
-    × (sets buf (at + k) (drop k (cut bytes start len)) ≡ sets buf₀ at (cut bytes start len))
+    × (sets buf (at + k) (drop k (cut from start len)) ≡ sets buf₀ at (cut from start len))
 
 abbrev μ-loop : tie.MeasureT-loop
-μ-loop buf₀ at bytes start len k₀ buf k = len - k
+μ-loop buf₀ at from start len k₀ buf k = len - k
 
 loop-holds : tie.Need-loop-holds Inv-loop μ-loop
 loop-holds c = (search needs, refl, rw add-zero)
@@ -46,7 +46,7 @@ loop-again c =
     let s = c .before .before .before in
     let L = c .before .before .loop in
     let a = s .args in
-    (search needs, simp length-set (L .inv .1), put-more (now (a .bytes)) (a .start) (a .len) (s .pre .0) (L .buf) (a .at) (L .k) (omega arith) ∙ L .inv .2)
+    (search needs, simp length-set (L .inv .1), put-more (now (a .from)) (a .start) (a .len) (s .pre .0) (L .buf) (a .at) (L .k) (omega arith) ∙ L .inv .2)
 
 same-length : tie.Need-same-length Inv-loop μ-loop
 same-length c = c .before .loop .inv .1
@@ -56,7 +56,7 @@ returns c =
     let s = c .before .before in
     let L = c .before .loop in
     let a = s .args in
-    sym (put-end (now (a .bytes)) (a .start) (a .len) (s .pre .0) (L .buf) (a .at + L .k) (L .k) (omega arith)) ∙ L .inv .2
+    sym (put-end (now (a .from)) (a .start) (a .len) (s .pre .0) (L .buf) (a .at + L .k) (L .k) (omega arith)) ∙ L .inv .2
 
 pub put-spec : {M : Type 1} → statement M
 put-spec =
