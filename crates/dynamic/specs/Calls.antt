@@ -146,6 +146,13 @@ no t r = record { table = t; reply = Reply.Refused r }
 abbrev pub whenSound : Table → Replied → Replied
 whenSound t r = cond (sound t) r (no t BadCall)
 
+-- 22 first, then 18 or 19; w: whether the call needs an open section
+abbrev pub admitted : Bool → Bool → Bool → Reply
+admitted k on w =
+    cond k
+    (cond on (cond w Reply.Done (Reply.Refused SectionOpen)) (cond w (Reply.Refused NoSection) Reply.Done))
+    (Reply.Refused BadCall)
+
 abbrev pub whenClosed : Table → Replied → Replied
 whenClosed t r = whenSound t (cond (t .active) (no t SectionOpen) r)
 

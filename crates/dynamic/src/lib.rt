@@ -140,6 +140,25 @@ fn origin_of(ring: Ring, arena: &[u8], gone: usize, name: &[u8], value: &[u8]) -
     Origin::Plain
 }
 
+// What a call answers before it looks further: 22, then 18 or 19, by whether it needs an open section.
+fn admitted(sound: bool, active: bool, wanted: bool) -> Reply
+    ensures { λ r. ⌜ r ≡ calls.admitted «sound» «active» «wanted» ⌝ }
+{
+    if !sound {
+        return Reply::Refused(Refusal::BadCall);
+    }
+    if active {
+        if wanted {
+            return Reply::Done;
+        }
+        return Reply::Refused(Refusal::SectionOpen);
+    }
+    if wanted {
+        return Reply::Refused(Refusal::NoSection);
+    }
+    Reply::Done
+}
+
 // A section's uses with one more of an entry.
 fn note(section: Section, entry: usize) -> Noted
     requires { ⌜ (section .from ≤ entry) × (entry - section .from < 2 ^ 16) ⌝ }
@@ -285,18 +304,16 @@ impl Table {
         ensures { λ r. ⌜ Keeps self (calls.setMost self most) r (λ t. model-table.setBlockedMax t most) ⌝ }
     {
         let c = self.checked();
-        if !c.sound {
-            return refused(self, Refusal::BadCall);
-        }
-        if self.active {
-            return refused(self, Refusal::SectionOpen);
-        }
-        if BLOCKED_SECTIONS <= most {
-            return refused(self, Refusal::MaxBlockedStreamsTooLarge);
-        }
+        let mut reply = admitted(c.sound, self.active, false);
         let mut next = self;
-        next.most = most;
-        done(next)
+        if let Reply::Done = reply {
+            if BLOCKED_SECTIONS <= most {
+                reply = Reply::Refused(Refusal::MaxBlockedStreamsTooLarge);
+            } else {
+                next.most = most;
+            }
+        }
+        Replied { table: next, reply }
     }
 
     // Inserts a field that the peer sent, where it can be.
@@ -329,28 +346,25 @@ impl Table {
         ensures { λ r. ⌜ Keeps self (calls.begin self stream) r (λ t. model-section.begin t stream) ⌝ }
     {
         let c = self.checked();
-        if !c.sound {
-            return refused(self, Refusal::BadCall);
-        }
-        if self.active {
-            return refused(self, Refusal::SectionOpen);
-        }
-        let dropped = self.ring.dropped;
-        let none = Held {
-            offset: 0,
-            count: 0,
-        };
+        let reply = admitted(c.sound, self.active, false);
         let mut next = self;
-        next.active = true;
-        next.base = self.ring.inserted - dropped;
-        let section = Section {
-            stream,
-            from: dropped,
-            used: 0,
-            uses: [none; SECTION_ENTRIES],
-        };
-        next.section = section;
-        done(next)
+        if let Reply::Done = reply {
+            let dropped = self.ring.dropped;
+            let none = Held {
+                offset: 0,
+                count: 0,
+            };
+            let section = Section {
+                stream,
+                from: dropped,
+                used: 0,
+                uses: [none; SECTION_ENTRIES],
+            };
+            next.active = true;
+            next.base = self.ring.inserted - dropped;
+            next.section = section;
+        }
+        Replied { table: next, reply }
     }
 
     // The latest entry of a field, which the open section then uses.
@@ -505,15 +519,12 @@ impl Table {
         ensures { λ r. ⌜ Keeps self (calls.abandon self) r (model-section.abandon) ⌝ }
     {
         let c = self.checked();
-        if !c.sound {
-            return refused(self, Refusal::BadCall);
-        }
-        if !self.active {
-            return refused(self, Refusal::NoSection);
-        }
+        let reply = admitted(c.sound, self.active, true);
         let mut next = self;
-        next.active = false;
-        done(next)
+        if let Reply::Done = reply {
+            next.active = false;
+        }
+        Replied { table: next, reply }
     }
 
     // The peer acknowledged a section of a stream.
