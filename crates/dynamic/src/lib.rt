@@ -542,23 +542,22 @@ impl Table {
     }
 
     // The release of the stream's oldest queued section.
-    fn release(mut self, stream: u64) -> Replied
+    fn release(self, stream: u64) -> Replied
         ensures { λ r. ⌜ Keeps self (calls.release self stream) r (λ t. model-report.release t stream) ⌝ }
     {
         let c = self.checked();
-        if !c.sound {
-            return refused(self, Refusal::BadCall);
+        let mut reply = admitted(c.sound, self.active, false);
+        let mut next = self;
+        if let Reply::Done = reply {
+            let q = tracking::release(self.queue, stream);
+            if q.made {
+                let queue = q.queue;
+                next.queue = queue;
+            } else {
+                reply = Reply::Refused(Refusal::UnknownStreamId);
+            }
         }
-        if self.active {
-            return refused(self, Refusal::SectionOpen);
-        }
-        let q = tracking::release(self.queue, stream);
-        if !q.made {
-            return refused(self, Refusal::UnknownStreamId);
-        }
-        let queue = q.queue;
-        self.queue = queue;
-        done(self)
+        Replied { table: next, reply }
     }
 
     // The peer received more inserts.
@@ -566,20 +565,18 @@ impl Table {
         ensures { λ r. ⌜ Keeps self (calls.increment self inserts) r (λ t. model-report.increment t inserts) ⌝ }
     {
         let c = self.checked();
-        if !c.sound {
-            return refused(self, Refusal::BadCall);
-        }
-        if self.active {
-            return refused(self, Refusal::SectionOpen);
-        }
-        let known = self.known;
-        if LARGEST_COUNT - known < inserts {
-            return refused(self, Refusal::CountTooLarge);
-        }
+        let mut reply = admitted(c.sound, self.active, false);
         let mut next = self;
-        next.known = known + inserts;
-        next.waiting = tracking::let_go(self.waiting, known + inserts);
-        done(next)
+        if let Reply::Done = reply {
+            let known = self.known;
+            if LARGEST_COUNT - known < inserts {
+                reply = Reply::Refused(Refusal::CountTooLarge);
+            } else {
+                next.known = known + inserts;
+                next.waiting = tracking::let_go(self.waiting, known + inserts);
+            }
+        }
+        Replied { table: next, reply }
     }
 }
 
