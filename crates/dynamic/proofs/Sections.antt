@@ -30,7 +30,7 @@ use Rattle.dynamic.specs.Record.{usesHere, view, sound}
 use Rattle.dynamic.specs.declared.Replied.{Replied}
 use Rattle.dynamic.specs.declared.Table.{Table}
 use Rattle.dynamic.proofs.Sound.{Sound, facts, is-sound, open-facts, open-keeps, closed-keeps}
-use Rattle.dynamic.proofs.Steps.{closed-refused, closed-step, open-broken, open-closed, open-refused, open-step, keeps-closed, keeps-open}
+use Rattle.dynamic.proofs.Steps.{closed-refused, closed-step, open-refused, open-step, keeps-closed, keeps-open}
 
 -- ---- begin
 
@@ -249,15 +249,12 @@ module _ (t : Table) where
   abandon-done k on = open-step t _ k on
 
 module _ (t : Table) (largest : ℕ) where
-  pub commit-broken : sound t ≡ false → no t BadCall ≡ commit t largest
+  pub commit-refused : (k : Bool) (r : Reply) (why : Refusal) → k ≡ sound t → r ≡ Reply.Refused why → r ≡ admitted k (t .active) true
+      → answer t r ≡ commit t largest
   unfolding commit
-  commit-broken h = open-broken t _ h
+  commit-refused k r why h n e = open-refused t k r h _ why n e
 
   module _ (k : sound t ≡ true) where
-    pub commit-closed : t .active ≡ false → no t NoSection ≡ commit t largest
-    unfolding commit
-    commit-closed off = open-closed t _ k off
-
     module _ (on : t .active ≡ true) where
       whole-commit : afterCommit t largest ≡ commit t largest
       unfolding commit

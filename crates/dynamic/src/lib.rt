@@ -280,23 +280,26 @@ impl Table {
         ensures { λ r. ⌜ Keeps self (calls.setCapacity self capacity) r (λ t. model-table.setCapacity t capacity) ⌝ }
     {
         let c = self.checked();
-        if !c.sound {
-            return refused(self, Refusal::BadCall);
-        }
-        if self.active {
-            return refused(self, Refusal::SectionOpen);
-        }
-        if let CapacityTest::Refused(why) = capacity_test(capacity) {
-            return refused(self, why);
-        }
-        let cut = self.ring.cut(c.low, capacity);
-        if !cut.made {
-            return refused(self, Refusal::ShrinkBlocked);
-        }
-        let ring = cut.ring;
+        let mut reply = admitted(c.sound, self.active, false);
         let mut next = self;
-        next.ring = ring;
-        done(next)
+        if let Reply::Done = reply {
+            let test = capacity_test(capacity);
+            match test {
+                CapacityTest::Refused(why) => {
+                    reply = Reply::Refused(why);
+                }
+                CapacityTest::Within => {
+                    let cut = self.ring.cut(c.low, capacity);
+                    if cut.made {
+                        let ring = cut.ring;
+                        next.ring = ring;
+                    } else {
+                        reply = Reply::Refused(Refusal::ShrinkBlocked);
+                    }
+                }
+            }
+        }
+        Replied { table: next, reply }
     }
 
     // Sets the blocked maximum.
@@ -488,30 +491,28 @@ impl Table {
         ensures { λ r. ⌜ Keeps self (calls.commit self largest) r (λ t. model-section.commit t largest) ⌝ }
     {
         let c = self.checked();
-        if !c.sound {
-            return refused(self, Refusal::BadCall);
-        }
-        if !self.active {
-            return refused(self, Refusal::NoSection);
-        }
-        if self.ring.inserted < largest {
-            return refused(self, Refusal::BadLargest);
-        }
-        let q = tracking::push(self.queue, self.section);
-        if !q.made {
-            return refused(self, Refusal::TrackingFull);
-        }
-        let w = waiting_with(self.waiting, self.known, largest);
-        if !w.fits {
-            return refused(self, Refusal::TrackingFull);
-        }
-        let waiting = w.waiting;
-        let queue = q.queue;
+        let mut reply = admitted(c.sound, self.active, true);
         let mut next = self;
-        next.waiting = waiting;
-        next.queue = queue;
-        next.active = false;
-        done(next)
+        if let Reply::Done = reply {
+            if self.ring.inserted < largest {
+                reply = Reply::Refused(Refusal::BadLargest);
+            } else {
+                let q = tracking::push(self.queue, self.section);
+                let w = waiting_with(self.waiting, self.known, largest);
+                if !q.made {
+                    reply = Reply::Refused(Refusal::TrackingFull);
+                } else if !w.fits {
+                    reply = Reply::Refused(Refusal::TrackingFull);
+                } else {
+                    let waiting = w.waiting;
+                    let queue = q.queue;
+                    next.waiting = waiting;
+                    next.queue = queue;
+                    next.active = false;
+                }
+            }
+        }
+        Replied { table: next, reply }
     }
 
     // Closes the open section and gives all its references back.
