@@ -43,30 +43,37 @@ module _ (t : Table) (x : Replied) where
 -- ---- the same, from the reply that `admitted` gives
 
 -- a reply that is done is none that refuses
-abbrev kind : Reply → ℕ
+abbrev pub kind : Reply → ℕ
 kind Reply.Done = 0
 kind (Reply.Refused r) = 1
 
-clash : {A : Type 0} → _≡_ {A = ℕ} 0 1 → A
+pub clash : {A : Type 0} → _≡_ {A = ℕ} 0 1 → A
 clash z = absurd (omega (arith, z))
+
+module _ (r : Reply) (d : r ≡ Reply.Done) where
+  pub closed-admitted : (k on : Bool) → r ≡ admitted k on false → (k ≡ true) × (on ≡ false)
+  closed-admitted k on e = go k on (ap kind (sym d ∙ e))
+    where
+      go : (k on : Bool) → 0 ≡ kind (admitted k on false) → (k ≡ true) × (on ≡ false)
+      go true true z = clash z
+      go true false z = (refl, refl)
+      go false on z = clash z
+
+  pub open-admitted : (k on : Bool) → r ≡ admitted k on true → (k ≡ true) × (on ≡ true)
+  open-admitted k on e = go k on (ap kind (sym d ∙ e))
+    where
+      go : (k on : Bool) → 0 ≡ kind (admitted k on true) → (k ≡ true) × (on ≡ true)
+      go true true z = (refl, refl)
+      go true false z = clash z
+      go false on z = clash z
 
 -- r: the reply; k: whether the record was found sound
 module _ (t : Table) (k : Bool) (r : Reply) (told : k ≡ sound t) where
   pub closed-passed : r ≡ admitted k (t .active) false → r ≡ Reply.Done → (sound t ≡ true) × (t .active ≡ false)
-  closed-passed e d = go k (t .active) told refl (ap kind (sym d ∙ e))
-    where
-      go : (k on : Bool) → k ≡ sound t → t .active ≡ on → 0 ≡ kind (admitted k on false) → (sound t ≡ true) × (t .active ≡ false)
-      go true true h a z = clash z
-      go true false h a z = (sym h, a)
-      go false on h a z = clash z
+  closed-passed e d = let p = closed-admitted r d k (t .active) e in (sym told ∙ p .0, p .1)
 
   pub open-passed : r ≡ admitted k (t .active) true → r ≡ Reply.Done → (sound t ≡ true) × (t .active ≡ true)
-  open-passed e d = go k (t .active) told refl (ap kind (sym d ∙ e))
-    where
-      go : (k on : Bool) → k ≡ sound t → t .active ≡ on → 0 ≡ kind (admitted k on true) → (sound t ≡ true) × (t .active ≡ true)
-      go true true h a z = (sym h, a)
-      go true false h a z = clash z
-      go false on h a z = clash z
+  open-passed e d = let p = open-admitted r d k (t .active) e in (sym told ∙ p .0, p .1)
 
   module _ (x : Replied) (why : Refusal) (no-pass : r ≡ Reply.Refused why) where
     pub closed-refused : r ≡ admitted k (t .active) false → answer t r ≡ whenClosed t x

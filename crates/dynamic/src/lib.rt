@@ -1,8 +1,9 @@
 // The dynamic table, RFC 9204 3.2: its record, the calls on it, the open section and the peer's reports.
 ghost use mathlib.Core.Path.{_≡_};
-ghost use mathlib.Core.Bool.{true};
+ghost use mathlib.Core.Bool.{true, _&&_};
 ghost use Prim.Native.Nat.{_+_, _-_, _≤_, _<_, _^_};
-ghost use Rattle.arena.specs.Ring.{longEnough};
+ghost use lib.Dec.{leb};
+ghost use Rattle.arena.specs.Ring.{ring as ringBytes, longEnough};
 ghost use Rattle.model.specs.Drop as model-table;
 ghost use Rattle.model.specs.Insert as model-insert;
 ghost use Rattle.model.specs.Report as model-report;
@@ -138,6 +139,16 @@ fn origin_of(ring: Ring, arena: &[u8], gone: usize, name: &[u8], value: &[u8]) -
         return Origin::NamedEntry(gone + k + 1);
     }
     Origin::Plain
+}
+
+// Whether a record that was checked, with an arena of a length, can be used.
+fn usable(sound: bool, room: usize) -> bool
+    ensures { λ r. ⌜ r ≡ («sound» && leb ringBytes room) ⌝ }
+{
+    if !sound {
+        return false;
+    }
+    RING <= room
 }
 
 // What a call answers before it looks further: 22, then 18 or 19, by whether it needs an open section.
@@ -375,34 +386,30 @@ impl Table {
         ensures { λ r. ⌜ Finds self (now (arena .entry)) (now (name .entry)) (now (value .entry)) r ⌝ }
     {
         let c = self.checked();
-        if !c.sound {
-            return not_found(self, Refusal::BadCall);
-        }
-        if arena.len() < RING {
-            return not_found(self, Refusal::BadCall);
-        }
-        if !self.active {
-            return not_found(self, Refusal::NoSection);
-        }
-        let ring = self.ring;
-        let Latest::At(k) = ring.newest(arena, ring.dropped, name, value, true) else {
-            return Looked {
-                table: self,
-                found: Find::Found(Lookup::NotFound),
-            };
-        };
-        let absolute = ring.dropped + k + 1;
-        let section = self.section;
-        let noted = note(section, absolute);
-        if !noted.fits {
-            return not_found(self, Refusal::TrackingFull);
-        }
+        let reply = admitted(usable(c.sound, arena.len()), self.active, true);
         let mut next = self;
-        next.section = with_uses(section, noted);
-        Looked {
-            table: next,
-            found: Find::Found(lookup_of(self.base, absolute)),
+        let mut found = Find::Found(Lookup::NotFound);
+        match reply {
+            Reply::Refused(why) => {
+                found = Find::Refused(why);
+            }
+            Reply::Done => {
+                let ring = self.ring;
+                let latest = ring.newest(arena, ring.dropped, name, value, true);
+                if let Latest::At(k) = latest {
+                    let absolute = ring.dropped + k + 1;
+                    let section = self.section;
+                    let noted = note(section, absolute);
+                    if noted.fits {
+                        next.section = with_uses(section, noted);
+                        found = Find::Found(lookup_of(self.base, absolute));
+                    } else {
+                        found = Find::Refused(Refusal::TrackingFull);
+                    }
+                }
+            }
         }
+        Looked { table: next, found }
     }
 
     // Inserts a field that the open section then uses, or says what names it.
@@ -596,15 +603,6 @@ fn refused(table: Table, why: Refusal) -> Replied
     Replied {
         table,
         reply: Reply::Refused(why),
-    }
-}
-
-fn not_found(table: Table, why: Refusal) -> Looked
-    ensures { λ r. ⌜ r ≡ calls.looked table (Find.Refused why) ⌝ }
-{
-    Looked {
-        table,
-        found: Find::Refused(why),
     }
 }
 

@@ -1,20 +1,21 @@
--- `dynamic::Table::find`: the tests in their order, then the latest entry's use is noted. Assumes nothing.
-use mathlib.Core.Path.{_≡_, sym, _∙_}
-use mathlib.Core.Bool.{true}
+-- `dynamic::Table::find`: what was not admitted, nothing found, no room for a use, or the latest entry's use noted. Assumes nothing.
+use mathlib.Core.Path.{_≡_, sym, ap, _∙_}
+use mathlib.Core.Bool.{Bool, true, _&&_}
 use mathlib.Core.Option.{some}
 use native.Mathlib.Omega.{arith}
 use lib.ListN.{length, length-map}
 use borrow.Author.Needs.{needs}
-use borrow.Author.Tests.{not-true, not-false, le-leb, lt-leb}
 use denote.Ref.{now}
 use Rattle.arena.specs.Ring.{longEnough}
+use Rattle.entries.proofs.Chain.{and-left, and-right}
 use Rattle.model.specs.Bounds.{sectionEntries}
 use Rattle.dynamic.specs.Calls.{latestOf}
-use Rattle.dynamic.specs.Record.{sound}
-use Rattle.dynamic.proofs.Told.{told-sound}
-use Rattle.dynamic.proofs.Finding.{finds, find-unsound, find-short, find-closed, find-nothing, find-full, find-at}
-use Rattle.dynamic.proofs.Searched.{found-within, found-at, found-none}
+use Rattle.dynamic.specs.Record.{sound, usable}
+use Rattle.dynamic.proofs.Finding.{finds, find-refused, find-nothing, find-full, find-at}
 use Rattle.dynamic.proofs.Refer.{Refers, near}
+use Rattle.dynamic.proofs.Searched.{found-within, found-at, found-none}
+use Rattle.dynamic.proofs.Steps.{open-admitted}
+use Rattle.dynamic.proofs.Told.{told-sound}
 use Rattle.dynamic.proofs.Table.find.Statement.{statement}
 use Rattle.dynamic.proofs.Table.find.Tie as tie
 
@@ -23,45 +24,50 @@ use Rattle.dynamic.proofs.Table.find.Tie as tie
 uses : (z : tie.Start) → length (z .args .self .section .uses) ≡ sectionEntries
 uses z = simp length-map at (z .good .0 .1 .1 .1 .1 .1 .1 .1 .1 .1 .0 .1 .1 .1 .1 .1 .0 .1 .0 .1)
 
-abbrev start : tie.Else1 → tie.Start
-start c = c .before .before .before .before .before .before
+abbrev begun : tie.After-checked → tie.Start
+begun c = c .before .before .before .before
 
-rules : (c : tie.Else1) → sound (start c .args .self) ≡ true
-rules c = sym (told-sound _ _ (c .before .before .checked .ensures)) ∙ not-false _ (c .if1 .left)
+-- the record and the arena were tested
+tells : (c : tie.After-usable) → let z = begun (c .before) .args in c .usable .result ≡ usable (z .self) (now (z .arena))
+tells c =
+    let z = begun (c .before) .args in
+    c .usable .ensures ∙ ap (λ (b : Bool). b && longEnough (now (z .arena))) (told-sound (z .self) (c .before .checked .result) (c .before .checked .ensures))
 
-long : (c : tie.Else2) → longEnough (now (start (c .before) .args .arena)) ≡ true
-long c = le-leb _ _ (c .if2 .left)
+abbrev first : tie.After-enum-told → tie.Start
+first c = begun (c .before .before .before .before)
 
--- a section is open
-abbrev tested : tie.Else3 → tie.Else2
-tested c = c .before .before
+-- a section is open, and the record may be used
+passed : (c : tie.After-enum-told) → let z = first c .args in (usable (z .self) (now (z .arena)) ≡ true) × (z .self .active ≡ true)
+passed c =
+    let a = c .before .before in
+    let p = open-admitted _ (c .enum-told .given .1) _ _ (a .admitted .ensures) in
+    (sym (tells (a .before)) ∙ p .0, p .1)
 
-abbrev first : tie.Else3 → tie.Start
-first c = start (tested c .before)
+rules : (c : tie.After-enum-told) → sound (first c .args .self) ≡ true
+rules c = and-left (sound (first c .args .self)) _ (passed c .0)
 
-active : (c : tie.Else3) → first c .args .self .active ≡ true
-active c = not-false _ (c .if3 .left)
+long : (c : tie.After-enum-told) → longEnough (now (first c .args .arena)) ≡ true
+long c = and-right (sound (first c .args .self)) _ (passed c .0)
 
 -- the entry that was found
-abbrev searched : tie.After-k → tie.Else3
+abbrev searched : tie.After-latest → tie.After-enum-told
 searched c = c .before .before .before .before
 
-found : (c : tie.After-k)
-    → latestOf (first (searched c) .args .self) (now (first (searched c) .args .arena)) (now (first (searched c) .args .name))
-    (now (first (searched c) .args .value)) true
-    ≡ some (c .k .given .0 .0)
+found : (c : tie.After-latest)
+    → let z = first (searched c) .args in latestOf (z .self) (now (z .arena)) (now (z .name)) (now (z .value)) true ≡ some (c .latest .given .0 .0)
 found c =
-    let z = first (searched c) .args in
+    let e = searched c in
+    let z = first e .args in
     found-at (z .self .ring) (now (z .arena)) (z .self .ring .dropped) (now (z .name)) (now (z .value)) true _
-    (long (tested (searched c))) (c .before .before .newest .ensures) _ (c .k .given .1)
+    (long e) (c .before .before .newest .ensures) _ (c .latest .given .1)
 
-refers : (c : tie.After-k) → Refers (first (searched c) .args .self) (c .k .given .0 .0)
+refers : (c : tie.After-latest) → Refers (first (searched c) .args .self) (c .latest .given .0 .0)
 refers c =
     let e = searched c in
     let z = first e .args in
     record {
-      rules = rules (tested e .before);
-      active = active e;
+      rules = rules e;
+      active = passed e .1;
       long = uses (first e);
       live = found-within (z .self .ring) (now (z .arena)) (z .self .ring .dropped) (now (z .name)) (now (z .value)) true _ (found c);
     }
@@ -69,50 +75,23 @@ refers c =
 checked-requires : tie.Need-checked-requires
 checked-requires c κs = search needs
 
-not-found-requires : tie.Need-not-found-requires
-not-found-requires c κs = search needs
+usable-requires : tie.Need-usable-requires
+usable-requires c κs = search needs
 
-returns : tie.Need-returns
-returns c =
-    let w = c .before .before .before in
-    let z = w .before .before .before .before in
-    finds _ _ _ _ _ (uses z)
-    (c .not-found .ensures
-    ∙ find-unsound _ _ _ _ (sym (told-sound _ _ (w .checked .ensures)) ∙ not-true _ (c .before .if1 .taken)))
+admitted-requires : tie.Need-admitted-requires
+admitted-requires c κs = search needs
 
-not-found-requires-2 : tie.Need-not-found-requires-2
-not-found-requires-2 c κs = search needs
-
-returns-2 : tie.Need-returns-2
-returns-2 c =
-    let e = c .before .before in
-    finds _ _ _ _ _ (uses (start e)) (c .not-found2 .ensures ∙ find-short _ _ _ _ (rules e) (lt-leb _ _ (c .before .if2 .taken)))
-
-not-found-requires-3 : tie.Need-not-found-requires-3
-not-found-requires-3 c κs = search needs
-
-returns-3 : tie.Need-returns-3
-returns-3 c =
-    let e = c .before .before .before in
-    finds _ _ _ _ _ (uses (start (e .before)))
-    (c .not-found3 .ensures ∙ find-closed _ _ _ _ (rules (e .before)) (long e) (not-true _ (c .before .if3 .taken)))
-
-newest-requires : tie.Need-newest-requires
-newest-requires c κs = search needs
-
-enum-known-k : tie.Need-enum-known-k
-enum-known-k c = search needs
+enum-known-reply : tie.Need-enum-known-reply
+enum-known-reply c = search needs
 
 enum-told : tie.Need-enum-told
 enum-told c = search needs
 
-returns-4 : tie.Need-returns-4
-returns-4 c =
-    let e = c .before .before .before .before in
-    let z = first e .args in
-    let none = found-none (z .self .ring) (now (z .arena)) (z .self .ring .dropped) (now (z .name)) (now (z .value)) true _
-    (long (tested e)) (c .before .before .newest .ensures) (c .enum-told .given .1) in
-    finds _ _ _ _ _ (uses (first e)) (find-nothing _ _ _ _ (rules (tested e .before)) (long (tested e)) (active e) none)
+newest-requires : tie.Need-newest-requires
+newest-requires c κs = search needs
+
+enum-known-latest : tie.Need-enum-known-latest
+enum-known-latest c = search needs
 
 add-absolute : tie.Need-add-absolute
 add-absolute c = let n = near _ _ (refers (c .before .before)) in omega (arith, n .below, n .counted)
@@ -123,56 +102,68 @@ add-absolute-2 c = let n = near _ _ (refers (c .before .before)) in omega (arith
 note-requires : tie.Need-note-requires
 note-requires c κs = let n = near _ _ (refers (c .before .before .before)) in (omega (arith, n .from), n .offset)
 
-not-found-requires-4 : tie.Need-not-found-requires-4
-not-found-requires-4 c κs = search needs
-
-returns-5 : tie.Need-returns-5
-returns-5 c =
-    let w = c .before .before .before in
-    let k = w .before .before .before .before in
-    let e = searched k in
-    finds _ _ _ _ _ (uses (first e))
-    (c .not-found4 .ensures
-    ∙ find-full _ _ _ _ (rules (tested e .before)) (long (tested e)) (active e) _ (found k) _ (w .note .ensures)
-    (not-true _ (c .before .if4 .taken)))
-
 with-uses-requires : tie.Need-with-uses-requires
 with-uses-requires c κs = search needs
 
 lookup-of-requires : tie.Need-lookup-of-requires
 lookup-of-requires c κs = search needs
 
-returns-6 : tie.Need-returns-6
-returns-6 c =
-    let o = c .before .before in
-    let w = o .before .before in
-    let k = w .before .before .before .before in
+enum-told-2 : tie.Need-enum-told-2
+enum-told-2 c = search needs
+
+returns : tie.Need-returns
+returns c =
+    let a = c .before .before .before in
+    finds _ _ _ _ _ (uses (begun (a .before .before)))
+    (find-refused _ _ _ _ _ _ _ (tells (a .before)) (c .before .reply .given .1) (a .admitted .ensures))
+
+-- the use was noted
+abbrev noted : tie.After-note → tie.After-latest
+noted c = c .before .before .before .before
+
+returns-2 : tie.Need-returns-2
+returns-2 c =
+    let w = c .before .before .before in
+    let k = noted w in
     let e = searched k in
     finds _ _ _ _ _ (uses (first e))
     (rw (c .lookup-of .ensures, c .before .with-uses .ensures)
-    (find-at _ _ _ _ (rules (tested e .before)) (long (tested e)) (active e) _ (found k) _ (w .note .ensures)
-    (not-false _ (o .if4 .left))))
+    (find-at _ _ _ _ (rules e) (long e) (passed e .1) _ (found k) _ (w .note .ensures) (c .before .before .if1 .taken)))
+
+returns-3 : tie.Need-returns-3
+returns-3 c =
+    let w = c .before in
+    let k = noted w in
+    let e = searched k in
+    finds _ _ _ _ _ (uses (first e)) (find-full _ _ _ _ (rules e) (long e) (passed e .1) _ (found k) _ (w .note .ensures) (c .if1 .left))
+
+returns-4 : tie.Need-returns-4
+returns-4 c =
+    let n = c .before .before in
+    let e = n .before .before in
+    let z = first e .args in
+    let none = found-none (z .self .ring) (now (z .arena)) (z .self .ring .dropped) (now (z .name)) (now (z .value)) true _
+    (long e) (n .newest .ensures) (c .enum-told2 .given .1) in
+    finds _ _ _ _ _ (uses (first e)) (find-nothing _ _ _ _ (rules e) (long e) (passed e .1) none)
 
 pub find-spec : {M : Type 1} → statement M
 find-spec =
     tie.close
     (tie.spec
     checked-requires
-    not-found-requires
-    returns
-    not-found-requires-2
-    returns-2
-    not-found-requires-3
-    returns-3
-    newest-requires
-    enum-known-k
+    usable-requires
+    admitted-requires
+    enum-known-reply
     enum-told
-    returns-4
+    newest-requires
+    enum-known-latest
     add-absolute
     add-absolute-2
     note-requires
-    not-found-requires-4
-    returns-5
     with-uses-requires
     lookup-of-requires
-    returns-6)
+    enum-told-2
+    returns
+    returns-2
+    returns-3
+    returns-4)
