@@ -331,28 +331,21 @@ impl Table {
     }
 
     // Inserts a field that the peer sent, where it can be.
-    pub fn put(mut self, arena: &mut [u8], name: &[u8], value: &[u8]) -> Replied
+    pub fn put(self, arena: &mut [u8], name: &[u8], value: &[u8]) -> Replied
         ensures { λ r. ⌜ Puts self (now (arena .entry)) (now (arena .exit)) (calls.put self (now (arena .entry)) (now (name .entry)) (now (value .entry))) r (now (name .entry)) (now (value .entry)) ⌝ }
     {
         let c = self.checked();
-        if !c.sound {
-            return refused(self, Refusal::BadCall);
+        let mut reply = admitted(usable(c.sound, arena.len()), self.active, false);
+        let mut next = self;
+        if let Reply::Done = reply {
+            let ring = self.ring;
+            let p = ring.push(arena, c.low, Source::Given, name, value);
+            let pushed = p.ring;
+            let push = p.push;
+            next.ring = pushed;
+            reply = push_reply(ring.capacity, push);
         }
-        if arena.len() < RING {
-            return refused(self, Refusal::BadCall);
-        }
-        if self.active {
-            return refused(self, Refusal::SectionOpen);
-        }
-        let ring = self.ring;
-        let p = ring.push(arena, c.low, Source::Given, name, value);
-        let next = p.ring;
-        let push = p.push;
-        self.ring = next;
-        Replied {
-            table: self,
-            reply: push_reply(ring.capacity, push),
-        }
+        Replied { table: next, reply }
     }
 
     // Opens a section of a stream.
@@ -585,24 +578,6 @@ impl Table {
             }
         }
         Replied { table: next, reply }
-    }
-}
-
-fn done(table: Table) -> Replied
-    ensures { λ r. ⌜ r ≡ calls.answer table Reply.Done ⌝ }
-{
-    Replied {
-        table,
-        reply: Reply::Done,
-    }
-}
-
-fn refused(table: Table, why: Refusal) -> Replied
-    ensures { λ r. ⌜ r ≡ calls.no table why ⌝ }
-{
-    Replied {
-        table,
-        reply: Reply::Refused(why),
     }
 }
 

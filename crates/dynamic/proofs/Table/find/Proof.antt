@@ -1,6 +1,6 @@
 -- `dynamic::Table::find`: what was not admitted, nothing found, no room for a use, or the latest entry's use noted. Assumes nothing.
-use mathlib.Core.Path.{_≡_, sym, ap, _∙_}
-use mathlib.Core.Bool.{Bool, true, _&&_}
+use mathlib.Core.Path.{_≡_, sym, _∙_}
+use mathlib.Core.Bool.{true}
 use mathlib.Core.Option.{some}
 use native.Mathlib.Omega.{arith}
 use lib.ListN.{length, length-map}
@@ -15,7 +15,7 @@ use Rattle.dynamic.proofs.Finding.{finds, find-refused, find-nothing, f
 use Rattle.dynamic.proofs.Refer.{Refers, near}
 use Rattle.dynamic.proofs.Searched.{found-within, found-at, found-none}
 use Rattle.dynamic.proofs.Steps.{open-admitted}
-use Rattle.dynamic.proofs.Told.{told-sound}
+use Rattle.dynamic.proofs.Told.{told-usable}
 use Rattle.dynamic.proofs.Table.find.Statement.{statement}
 use Rattle.dynamic.proofs.Table.find.Tie as tie
 
@@ -31,7 +31,7 @@ begun c = c .before .before .before .before
 tells : (c : tie.After-usable) → let z = begun (c .before) .args in c .usable .result ≡ usable (z .self) (now (z .arena))
 tells c =
     let z = begun (c .before) .args in
-    c .usable .ensures ∙ ap (λ (b : Bool). b && longEnough (now (z .arena))) (told-sound (z .self) (c .before .checked .result) (c .before .checked .ensures))
+    told-usable (z .self) (c .before .checked .result) (c .before .checked .ensures) (now (z .arena)) _ (c .usable .ensures)
 
 abbrev first : tie.After-enum-told → tie.Start
 first c = begun (c .before .before .before .before)
