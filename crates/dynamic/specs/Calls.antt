@@ -43,6 +43,7 @@ use Rattle.dynamic.specs.declared.Looked.{Looked}
 use Rattle.dynamic.specs.declared.Origin.{Origin as Naming}
 use Rattle.dynamic.specs.declared.Origin.the-variants.{EqualEntry, StaticName, NamedEntry, Plain}
 use Rattle.dynamic.specs.declared.Replied.{Replied}
+use Rattle.dynamic.specs.declared.Searching.{Searching}
 use Rattle.dynamic.specs.declared.Table.{Table}
 use Rattle.dynamic.specs.Record.{sound, usable, lowestUsed}
 -- the parts that need no record
@@ -255,6 +256,10 @@ find t a n v =
     cond (usable t a)
     (cond (t .active) (foundAt t (latestOf t a n v true)) (looked t (Find.Refused NoSection)))
     (looked t (Find.Refused BadCall))
+
+-- a table with another open section, and a find's answer
+abbrev pub searchedBy : Table → Searching → Looked
+searchedBy t s = looked (withSection (t .active) (t .base) (s .section) t) (s .found)
 
 -- ---- the insert of a section
 

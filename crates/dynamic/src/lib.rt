@@ -71,6 +71,12 @@ pub struct Looked {
     pub found: Find,
 }
 
+// An open section and a find's answer.
+pub struct Searching {
+    pub section: Section,
+    pub found: Find,
+}
+
 // A table and an insert's answer.
 pub struct Inserting {
     pub table: Table,
@@ -378,31 +384,46 @@ impl Table {
     pub fn find(self, arena: &[u8], name: &[u8], value: &[u8]) -> Looked
         ensures { λ r. ⌜ Finds self (now (arena .entry)) (now (name .entry)) (now (value .entry)) r ⌝ }
     {
-        let c = self.checked();
-        let reply = admitted(usable(c.sound, arena.len()), self.active, true);
+        let s = self.searched(arena, name, value);
+        let section = s.section;
+        let found = s.found;
         let mut next = self;
-        let mut found = Find::Found(Lookup::NotFound);
-        match reply {
-            Reply::Refused(why) => {
-                found = Find::Refused(why);
-            }
-            Reply::Done => {
-                let ring = self.ring;
-                let latest = ring.newest(arena, ring.dropped, name, value, true);
-                if let Latest::At(k) = latest {
-                    let absolute = ring.dropped + k + 1;
-                    let section = self.section;
-                    let noted = note(section, absolute);
-                    if noted.fits {
-                        next.section = with_uses(section, noted);
-                        found = Find::Found(lookup_of(self.base, absolute));
-                    } else {
-                        found = Find::Refused(Refusal::TrackingFull);
-                    }
-                }
-            }
-        }
+        next.section = section;
         Looked { table: next, found }
+    }
+
+    // What a find answers, and the open section after it.
+    fn searched(self, arena: &[u8], name: &[u8], value: &[u8]) -> Searching
+        ensures { λ r. ⌜ calls.searchedBy self r ≡ calls.find self (now (arena .entry)) (now (name .entry)) (now (value .entry)) ⌝ }
+    {
+        let c = self.checked();
+        let section = self.section;
+        let reply = admitted(usable(c.sound, arena.len()), self.active, true);
+        if let Reply::Refused(why) = reply {
+            return Searching {
+                section,
+                found: Find::Refused(why),
+            };
+        }
+        let ring = self.ring;
+        let Latest::At(k) = ring.newest(arena, ring.dropped, name, value, true) else {
+            return Searching {
+                section,
+                found: Find::Found(Lookup::NotFound),
+            };
+        };
+        let absolute = ring.dropped + k + 1;
+        let noted = note(section, absolute);
+        if !noted.fits {
+            return Searching {
+                section,
+                found: Find::Refused(Refusal::TrackingFull),
+            };
+        }
+        Searching {
+            section: with_uses(section, noted),
+            found: Find::Found(lookup_of(self.base, absolute)),
+        }
     }
 
     // Inserts a field that the open section then uses, or says what names it.
