@@ -42,6 +42,7 @@ use Rattle.dynamic.specs.declared.Inserting.{Inserting}
 use Rattle.dynamic.specs.declared.Looked.{Looked}
 use Rattle.dynamic.specs.declared.Origin.{Origin as Naming}
 use Rattle.dynamic.specs.declared.Origin.the-variants.{EqualEntry, StaticName, NamedEntry, Plain}
+use Rattle.dynamic.specs.declared.Released.{Released}
 use Rattle.dynamic.specs.declared.Replied.{Replied}
 use Rattle.dynamic.specs.declared.Searching.{Searching}
 use Rattle.dynamic.specs.declared.Table.{Table}
@@ -364,6 +365,10 @@ release t stream =
     (cond (releasing (t .queue) stream .made)
     (answer (withQueue (releasing (t .queue) stream .queue) t) Reply.Done)
     (no t UnknownStreamId))
+
+-- a table with another queue, and a report's answer
+abbrev pub releasedBy : Table → Released → Replied
+releasedBy t r = answer (withQueue (r .queue) t) (r .reply)
 
 unfoldable pub increment : Table → ℕ → Replied
 increment t n =

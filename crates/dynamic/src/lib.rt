@@ -77,6 +77,12 @@ pub struct Searching {
     pub found: Find,
 }
 
+// A queue and a report's answer.
+pub struct Released {
+    pub queue: Queue,
+    pub reply: Reply,
+}
+
 // A table and an insert's answer.
 pub struct Inserting {
     pub table: Table,
@@ -553,33 +559,43 @@ impl Table {
     pub fn acknowledge(self, stream: u64) -> Replied
         ensures { λ r. ⌜ Keeps self (calls.release self stream) r (λ t. model-report.release t stream) ⌝ }
     {
-        self.release(stream)
+        let r = self.released(stream);
+        with_queue(self, r)
     }
 
     // The peer cancelled a stream.
     pub fn cancel(self, stream: u64) -> Replied
         ensures { λ r. ⌜ Keeps self (calls.release self stream) r (λ t. model-report.release t stream) ⌝ }
     {
-        self.release(stream)
+        let r = self.released(stream);
+        with_queue(self, r)
     }
 
-    // The release of the stream's oldest queued section.
-    fn release(self, stream: u64) -> Replied
-        ensures { λ r. ⌜ Keeps self (calls.release self stream) r (λ t. model-report.release t stream) ⌝ }
+    // What the release of a stream's oldest queued section answers, and the queue after it.
+    fn released(self, stream: u64) -> Released
+        ensures { λ r. ⌜ Keeps self (calls.release self stream) (calls.releasedBy self r) (λ t. model-report.release t stream) ⌝ }
     {
         let c = self.checked();
-        let mut reply = admitted(c.sound, self.active, false);
-        let mut next = self;
-        if let Reply::Done = reply {
-            let q = tracking::release(self.queue, stream);
-            if q.made {
-                let queue = q.queue;
-                next.queue = queue;
-            } else {
-                reply = Reply::Refused(Refusal::UnknownStreamId);
-            }
+        let queue = self.queue;
+        let reply = admitted(c.sound, self.active, false);
+        if let Reply::Refused(why) = reply {
+            return Released {
+                queue,
+                reply: Reply::Refused(why),
+            };
         }
-        Replied { table: next, reply }
+        let q = tracking::release(queue, stream);
+        if !q.made {
+            return Released {
+                queue,
+                reply: Reply::Refused(Refusal::UnknownStreamId),
+            };
+        }
+        let left = q.queue;
+        Released {
+            queue: left,
+            reply: Reply::Done,
+        }
     }
 
     // The peer received more inserts.
@@ -600,6 +616,17 @@ impl Table {
         }
         Replied { table: next, reply }
     }
+}
+
+// A table with the queue that a report left.
+fn with_queue(table: Table, r: Released) -> Replied
+    ensures { λ o. ⌜ o ≡ calls.releasedBy table r ⌝ }
+{
+    let queue = r.queue;
+    let reply = r.reply;
+    let mut next = table;
+    next.queue = queue;
+    Replied { table: next, reply }
 }
 
 fn not_inserted(table: Table, why: Refusal) -> Inserting
