@@ -1,5 +1,5 @@
 -- A find to the last field is a find in the model, and keeps the rules; and its answer by the tests. Assumes nothing.
-use mathlib.Core.Path.{_≡_, refl}
+use mathlib.Core.Path.{_≡_, refl, sym, ap, _∙_}
 use mathlib.Core.Bool.{Bool, true, false, cond}
 use mathlib.Core.List.{List}
 use mathlib.Core.Option.{Option, some, none}
@@ -9,37 +9,43 @@ use Rattle.answers.specs.Table.{found}
 use Rattle.answers.specs.declared.Find.{Find}
 use Rattle.answers.specs.declared.Find.the-variants.{Found}
 use Rattle.answers.specs.declared.Lookup.the-variants.{NotFound}
+use Rattle.answers.specs.declared.Refusal.{Refusal}
 use Rattle.answers.specs.declared.Refusal.the-variants.{NoSection, TrackingFull, BadCall}
+use Rattle.answers.specs.declared.Reply.{Reply}
 use Rattle.arena.specs.Ring.{longEnough}
 use Rattle.entries.proofs.Chain.{and-left, and-right}
 use Rattle.model.specs.Bounds.{sectionEntries}
 use Rattle.model.specs.Section as model
 use Rattle.model.specs.Table.{Open}
 use Rattle.tracking.specs.declared.Noted.{Noted}
-use Rattle.dynamic.specs.Calls.{latestOf, notedIn, withUses, withNoted, looked, referTo, foundAt, find}
+use Rattle.dynamic.specs.Calls.{admitted, latestOf, notedIn, withUses, withNoted, looked, referTo, foundAt, find}
 use Rattle.dynamic.specs.Promise.{outcome, Finds}
 use Rattle.dynamic.specs.Record.{usesHere, view, sound, usable}
 use Rattle.dynamic.specs.declared.Looked.{Looked}
 use Rattle.dynamic.specs.declared.Table.{Table}
 use Rattle.dynamic.proofs.Searched.{found-within}
 use Rattle.dynamic.proofs.Refer.{Refers, entryAt, noted-sound, noted-here}
+use Rattle.dynamic.proofs.Steps.{kind, clash}
 
 -- ---- the answer by the tests
 
 module _ (t : Table) (a n v : List ℕ) where
-  pub find-unsound : sound t ≡ false → looked t (Find.Refused BadCall) ≡ find t a n v
-  unfolding find
-  find-unsound h = rw h
+  -- the find that a reply stands for
+  abbrev refusedBy : Reply → Looked
+  refusedBy Reply.Done = looked t (Found NotFound)
+  refusedBy (Reply.Refused w) = looked t (Find.Refused w)
 
-  pub find-short : sound t ≡ true → longEnough a ≡ false → looked t (Find.Refused BadCall) ≡ find t a n v
+  pub find-refused : (u : Bool) (r : Reply) (why : Refusal) → u ≡ usable t a → r ≡ Reply.Refused why → r ≡ admitted u (t .active) true
+      → looked t (Find.Refused why) ≡ find t a n v
   unfolding find
-  find-short rules h = rw (rules, h)
+  find-refused u r why h m e = go u (t .active) h refl (sym m ∙ e)
+    where
+      go : (u on : Bool) → u ≡ usable t a → t .active ≡ on → Reply.Refused why ≡ admitted u on true → looked t (Find.Refused why) ≡ find t a n v
+      go true true h o e = clash (sym (ap kind e))
+      go true false h o e = ap refusedBy e ∙ rw (← h, o)
+      go false on h o e = ap refusedBy e ∙ rw (← h)
 
   module _ (rules : sound t ≡ true) (long : longEnough a ≡ true) where
-    pub find-closed : t .active ≡ false → looked t (Find.Refused NoSection) ≡ find t a n v
-    unfolding find
-    find-closed h = rw (rules, long, h)
-
     module _ (active : t .active ≡ true) where
       pub find-nothing : latestOf t a n v true ≡ none → looked t (Found NotFound) ≡ find t a n v
       unfolding find

@@ -9,6 +9,7 @@ use lib.Dec.{leb, ltb, eqb}
 use borrow.Author.Tests.{le-ltb, lt-ltb, ltb-true, ltb-false, leb-true, leb-false, ne-eqb}
 use Rattle.answers.specs.Answer.{done}
 use Rattle.answers.specs.Table.{Done, ok}
+use Rattle.answers.specs.declared.Refusal.{Refusal}
 use Rattle.answers.specs.declared.Refusal.the-variants.{MaxTableSizeReached, SectionOpen, BadCall}
 use Rattle.answers.specs.declared.Reply.{Reply}
 use Rattle.arena.specs.Ring.{ringWrite}
@@ -26,7 +27,7 @@ use Rattle.ring.proofs.Growing.{Grown}
 use Rattle.ring.proofs.Keeping.{Arrays, kept, count-fields}
 use Rattle.ring.proofs.Making.{makes}
 use Rattle.ring.proofs.Pushing.{Usable, Stays, push-too-large, push-no-room, push-full, push-made, push-grown}
-use Rattle.dynamic.specs.Calls.{withRing, answer, no, pushReply, putBy, put, bytesAfter}
+use Rattle.dynamic.specs.Calls.{withRing, answer, no, admitted, pushReply, putBy, put, bytesAfter}
 use Rattle.dynamic.specs.Promise.{Puts}
 use Rattle.dynamic.specs.Record.{view, sound, usable, lowestUsed}
 use Rattle.dynamic.specs.declared.Replied.{Replied}
@@ -35,6 +36,7 @@ use Rattle.dynamic.proofs.Free.{same-making, still-above}
 use Rattle.dynamic.proofs.Setting.{stepOf}
 use Rattle.dynamic.proofs.Sound.{Sound, facts, is-sound}
 use Rattle.dynamic.proofs.Staying.{closed-stays}
+use Rattle.dynamic.proofs.Steps.{kind, clash}
 
 -- ---- in the model, for a closed table
 
@@ -81,6 +83,16 @@ module _ (t : Table) (a n v : List ℕ) where
         model = λ u. rw (e, on);
         kept = λ u. rw e u;
       }
+
+  pub puts-refused : (u : Bool) (r : Reply) (why : Refusal) → u ≡ usable t a → r ≡ Reply.Refused why → r ≡ admitted u (t .active) false
+      → Puts t a a (put t a n v) (answer t r) n v
+  puts-refused u r why h m e = go u (t .active) h refl e (ap kind (sym m ∙ e))
+    where
+      go : (u on : Bool) → u ≡ usable t a → t .active ≡ on → r ≡ admitted u on false → 1 ≡ kind (admitted u on false)
+          → Puts t a a (put t a n v) (answer t r) n v
+      go true true h o e z = puts-open (ap (answer t) e) (sym h) o
+      go true false h o e z = clash (sym z)
+      go false on h o e z = puts-unusable (ap (answer t) e) (sym h)
 
   -- ---- in a closed table that keeps its rules
 

@@ -8,7 +8,8 @@ use lib.Dec.{ltb}
 use lib.ListN.{length, take}
 use borrow.Author.Tests.{ltb-false, lt-ltb, le-ltb}
 use Rattle.answers.specs.Table.{replied}
-use Rattle.answers.specs.declared.Refusal.the-variants.{UnknownStreamId, SectionOpen, BadCall, CountTooLarge}
+use Rattle.answers.specs.declared.Refusal.{Refusal}
+use Rattle.answers.specs.declared.Refusal.the-variants.{UnknownStreamId, CountTooLarge}
 use Rattle.answers.specs.declared.Reply.{Reply}
 use Rattle.model.specs.Bounds.{queuePlaces, blockedValues}
 use Rattle.model.specs.Report as report
@@ -17,13 +18,13 @@ use Rattle.tracking.specs.Queue.{sectionsOf, allSectionsLive, releasing}
 use Rattle.tracking.specs.declared.Queued.{Queued}
 use Rattle.tracking.proofs.Sections.{released-is, released-queued, released-live}
 use Rattle.blocked.proofs.Blocked.{let-go-is, let-go-keeps}
-use Rattle.dynamic.specs.Calls.{answer, no, withQueue, raised, release, increment}
+use Rattle.dynamic.specs.Calls.{answer, no, admitted, withQueue, raised, release, increment}
 use Rattle.dynamic.specs.Promise.{outcome, Keeps}
 use Rattle.dynamic.specs.Record.{view, sound}
 use Rattle.dynamic.specs.declared.Replied.{Replied}
 use Rattle.dynamic.specs.declared.Table.{Table}
 use Rattle.dynamic.proofs.Sound.{Sound, facts, is-sound, closed-keeps}
-use Rattle.dynamic.proofs.Steps.{closed-broken, closed-open, closed-step, keeps-closed}
+use Rattle.dynamic.proofs.Steps.{closed-refused, closed-step, keeps-closed}
 
 -- the outcome of a release, from what the queue did
 abbrev afterRelease : Table → Queued → Replied
@@ -123,15 +124,12 @@ increment-keeps t n r long e =
 -- ---- which outcome it is, by the tests of the code
 
 module _ (t : Table) (stream : ℕ) where
-  pub release-broken : sound t ≡ false → no t BadCall ≡ release t stream
+  pub release-refused : (k : Bool) (r : Reply) (why : Refusal) → k ≡ sound t → r ≡ Reply.Refused why → r ≡ admitted k (t .active) false
+      → answer t r ≡ release t stream
   unfolding release
-  release-broken h = closed-broken t _ h
+  release-refused k r why h n e = closed-refused t k r h _ why n e
 
   module _ (k : sound t ≡ true) where
-    pub release-open : t .active ≡ true → no t SectionOpen ≡ release t stream
-    unfolding release
-    release-open on = closed-open t _ k on
-
     module _ (off : t .active ≡ false) (q : Queued) (e : q ≡ releasing (t .queue) stream) where
       pub release-none : q .made ≡ false → no t UnknownStreamId ≡ release t stream
       unfolding release
@@ -148,15 +146,12 @@ module _ (t : Table) (stream : ℕ) where
           released b = cond b (answer (withQueue (q .queue) t) Reply.Done) (no t UnknownStreamId)
 
 module _ (t : Table) (n : ℕ) where
-  pub increment-broken : sound t ≡ false → no t BadCall ≡ increment t n
+  pub increment-refused : (k : Bool) (r : Reply) (why : Refusal) → k ≡ sound t → r ≡ Reply.Refused why → r ≡ admitted k (t .active) false
+      → answer t r ≡ increment t n
   unfolding increment
-  increment-broken h = closed-broken t _ h
+  increment-refused k r why h n e = closed-refused t k r h _ why n e
 
   module _ (k : sound t ≡ true) where
-    pub increment-open : t .active ≡ true → no t SectionOpen ≡ increment t n
-    unfolding increment
-    increment-open on = closed-open t _ k on
-
     module _ (off : t .active ≡ false) where
       pub increment-past : largestCount < t .known + n → no t CountTooLarge ≡ increment t n
       unfolding increment
@@ -171,3 +166,8 @@ module _ (t : Table) (n : ℕ) where
         where
           counts : Bool → Replied
           counts b = cond b (no t CountTooLarge) (answer (raised (t .known + n) t) Reply.Done)
+
+-- a promise holds of what equals what it was shown of
+pub release-as : (t : Table) (stream : ℕ) {r s : Replied} → r ≡ s → Keeps t (release t stream) s (λ m. report.release m stream)
+    → Keeps t (release t stream) r (λ m. report.release m stream)
+release-as t stream e k = rw e k

@@ -10,6 +10,7 @@ use lib.ListN.{length}
 use borrow.Author.Tests.{le-leb, lt-leb, le-ltb, lt-ltb, ltb-true, ltb-false}
 use Rattle.answers.specs.Answer.{done}
 use Rattle.answers.specs.Table.{replied, ok}
+use Rattle.answers.specs.declared.Refusal.{Refusal}
 use Rattle.answers.specs.declared.Refusal.the-variants.{SectionOpen, NoSection, TrackingFull, BadLargest, BadCall}
 use Rattle.answers.specs.declared.Reply.{Reply}
 use Rattle.model.specs.Bounds.{queuePlaces, blockedValues, blockedSections}
@@ -23,17 +24,17 @@ use Rattle.tracking.specs.declared.Queue.{Queue}
 use Rattle.tracking.specs.declared.Queued.{Queued}
 use Rattle.blocked.proofs.Blocked.{blocking-is, blocking-keeps}
 use Rattle.tracking.proofs.Sections.{length-sections, pushed-made, pushed-sections, pushed-queued, pushed-live}
-use Rattle.dynamic.specs.Calls.{answer, no, withSection, committed, newSection, begin, abandon, commit, commitPlace, queuedWith, countedWith}
+use Rattle.dynamic.specs.Calls.{answer, no, admitted, withSection, committed, newSection, begin, abandon, commit, commitPlace, queuedWith, countedWith}
 use Rattle.dynamic.specs.Promise.{outcome, Keeps}
 use Rattle.dynamic.specs.Record.{usesHere, view, sound}
 use Rattle.dynamic.specs.declared.Replied.{Replied}
 use Rattle.dynamic.specs.declared.Table.{Table}
 use Rattle.dynamic.proofs.Sound.{Sound, facts, is-sound, open-facts, open-keeps, closed-keeps}
-use Rattle.dynamic.proofs.Steps.{closed-broken, closed-open, closed-step, open-broken, open-closed, open-step, keeps-closed, keeps-open}
+use Rattle.dynamic.proofs.Steps.{closed-refused, closed-step, open-refused, open-step, keeps-closed, keeps-open}
 
 -- ---- begin
 
-abbrev begun : Table → ℕ → Table
+abbrev pub begun : Table → ℕ → Table
 begun t stream = withSection true (t .ring .inserted - t .ring .dropped) (newSection t stream) t
 
 begun-sound : (t : Table) (stream : ℕ) → Sound t → sound (begun t stream) ≡ true
@@ -228,41 +229,32 @@ module _ (t : Table) (largest : ℕ) (long : length (t .waiting .values) ≡ blo
 -- ---- which outcome it is, by the tests of the code
 
 module _ (t : Table) (stream : ℕ) where
-  pub begin-broken : sound t ≡ false → no t BadCall ≡ begin t stream
+  pub begin-refused : (k : Bool) (r : Reply) (why : Refusal) → k ≡ sound t → r ≡ Reply.Refused why → r ≡ admitted k (t .active) false
+      → answer t r ≡ begin t stream
   unfolding begin
-  begin-broken h = closed-broken t _ h
-
-  pub begin-open : sound t ≡ true → t .active ≡ true → no t SectionOpen ≡ begin t stream
-  unfolding begin
-  begin-open k on = closed-open t _ k on
+  begin-refused k r why h n e = closed-refused t k r h _ why n e
 
   pub begin-done : sound t ≡ true → t .active ≡ false → answer (begun t stream) Reply.Done ≡ begin t stream
   unfolding begin
   begin-done k off = closed-step t _ k off
 
 module _ (t : Table) where
-  pub abandon-broken : sound t ≡ false → no t BadCall ≡ abandon t
+  pub abandon-refused : (k : Bool) (r : Reply) (why : Refusal) → k ≡ sound t → r ≡ Reply.Refused why → r ≡ admitted k (t .active) true
+      → answer t r ≡ abandon t
   unfolding abandon
-  abandon-broken h = open-broken t _ h
-
-  pub abandon-closed : sound t ≡ true → t .active ≡ false → no t NoSection ≡ abandon t
-  unfolding abandon
-  abandon-closed k off = open-closed t _ k off
+  abandon-refused k r why h n e = open-refused t k r h _ why n e
 
   pub abandon-done : sound t ≡ true → t .active ≡ true → answer (withSection false (t .base) (t .section) t) Reply.Done ≡ abandon t
   unfolding abandon
   abandon-done k on = open-step t _ k on
 
 module _ (t : Table) (largest : ℕ) where
-  pub commit-broken : sound t ≡ false → no t BadCall ≡ commit t largest
+  pub commit-refused : (k : Bool) (r : Reply) (why : Refusal) → k ≡ sound t → r ≡ Reply.Refused why → r ≡ admitted k (t .active) true
+      → answer t r ≡ commit t largest
   unfolding commit
-  commit-broken h = open-broken t _ h
+  commit-refused k r why h n e = open-refused t k r h _ why n e
 
   module _ (k : sound t ≡ true) where
-    pub commit-closed : t .active ≡ false → no t NoSection ≡ commit t largest
-    unfolding commit
-    commit-closed off = open-closed t _ k off
-
     module _ (on : t .active ≡ true) where
       whole-commit : afterCommit t largest ≡ commit t largest
       unfolding commit

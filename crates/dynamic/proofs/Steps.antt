@@ -5,12 +5,15 @@ use mathlib.Core.Bool.{Bool, true, false}
 use mathlib.Core.List.{List}
 use mathlib.Core.Option.{Option, some, none}
 use Prim.Native.Nat.{ℕ}
+use native.Mathlib.Omega.{arith}
 use Rattle.answers.specs.Table.{Done, replied}
+use Rattle.answers.specs.declared.Refusal.{Refusal}
 use Rattle.answers.specs.declared.Refusal.the-variants.{SectionOpen, NoSection, BadCall}
+use Rattle.answers.specs.declared.Reply.{Reply}
 use Rattle.model.specs.Drop.{closed}
 use Rattle.model.specs.Section.{inSection}
 use Rattle.model.specs.Table as model
-use Rattle.dynamic.specs.Calls.{no, whenClosed, whenOpen}
+use Rattle.dynamic.specs.Calls.{answer, no, admitted, whenClosed, whenOpen}
 use Rattle.dynamic.specs.Promise.{outcome, Keeps}
 use Rattle.dynamic.specs.Record.{usesHere, view, sound}
 use Rattle.dynamic.specs.declared.Replied.{Replied}
@@ -36,6 +39,58 @@ module _ (t : Table) (x : Replied) where
 
   pub open-step : sound t ≡ true → t .active ≡ true → x ≡ whenOpen t x
   open-step h a = rw (h, a)
+
+-- ---- the same, from the reply that `admitted` gives
+
+-- a reply that is done is none that refuses
+abbrev pub kind : Reply → ℕ
+kind Reply.Done = 0
+kind (Reply.Refused r) = 1
+
+pub clash : {A : Type 0} → _≡_ {A = ℕ} 0 1 → A
+clash z = absurd (omega (arith, z))
+
+module _ (r : Reply) (d : r ≡ Reply.Done) where
+  pub closed-admitted : (k on : Bool) → r ≡ admitted k on false → (k ≡ true) × (on ≡ false)
+  closed-admitted k on e = go k on (ap kind (sym d ∙ e))
+    where
+      go : (k on : Bool) → 0 ≡ kind (admitted k on false) → (k ≡ true) × (on ≡ false)
+      go true true z = clash z
+      go true false z = (refl, refl)
+      go false on z = clash z
+
+  pub open-admitted : (k on : Bool) → r ≡ admitted k on true → (k ≡ true) × (on ≡ true)
+  open-admitted k on e = go k on (ap kind (sym d ∙ e))
+    where
+      go : (k on : Bool) → 0 ≡ kind (admitted k on true) → (k ≡ true) × (on ≡ true)
+      go true true z = (refl, refl)
+      go true false z = clash z
+      go false on z = clash z
+
+-- r: the reply; k: whether the record was found sound
+module _ (t : Table) (k : Bool) (r : Reply) (told : k ≡ sound t) where
+  pub closed-passed : r ≡ admitted k (t .active) false → r ≡ Reply.Done → (sound t ≡ true) × (t .active ≡ false)
+  closed-passed e d = let p = closed-admitted r d k (t .active) e in (sym told ∙ p .0, p .1)
+
+  pub open-passed : r ≡ admitted k (t .active) true → r ≡ Reply.Done → (sound t ≡ true) × (t .active ≡ true)
+  open-passed e d = let p = open-admitted r d k (t .active) e in (sym told ∙ p .0, p .1)
+
+  module _ (x : Replied) (why : Refusal) (no-pass : r ≡ Reply.Refused why) where
+    pub closed-refused : r ≡ admitted k (t .active) false → answer t r ≡ whenClosed t x
+    closed-refused e = go k (t .active) told refl e (ap kind (sym no-pass ∙ e))
+      where
+        go : (k on : Bool) → k ≡ sound t → t .active ≡ on → r ≡ admitted k on false → 1 ≡ kind (admitted k on false) → answer t r ≡ whenClosed t x
+        go true true h a e z = ap (answer t) e ∙ closed-open t x (sym h) a
+        go true false h a e z = clash (sym z)
+        go false on h a e z = ap (answer t) e ∙ closed-broken t x (sym h)
+
+    pub open-refused : r ≡ admitted k (t .active) true → answer t r ≡ whenOpen t x
+    open-refused e = go k (t .active) told refl e (ap kind (sym no-pass ∙ e))
+      where
+        go : (k on : Bool) → k ≡ sound t → t .active ≡ on → r ≡ admitted k on true → 1 ≡ kind (admitted k on true) → answer t r ≡ whenOpen t x
+        go true true h a e z = clash (sym z)
+        go true false h a e z = ap (answer t) e ∙ open-closed t x (sym h) a
+        go false on h a e z = ap (answer t) e ∙ open-broken t x (sym h)
 
 -- ---- the promise
 

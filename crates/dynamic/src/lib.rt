@@ -1,8 +1,9 @@
 // The dynamic table, RFC 9204 3.2: its record, the calls on it, the open section and the peer's reports.
 ghost use mathlib.Core.Path.{_≡_};
-ghost use mathlib.Core.Bool.{true};
+ghost use mathlib.Core.Bool.{true, _&&_};
 ghost use Prim.Native.Nat.{_+_, _-_, _≤_, _<_, _^_};
-ghost use Rattle.arena.specs.Ring.{longEnough};
+ghost use lib.Dec.{leb};
+ghost use Rattle.arena.specs.Ring.{ring as ringBytes, longEnough};
 ghost use Rattle.model.specs.Drop as model-table;
 ghost use Rattle.model.specs.Insert as model-insert;
 ghost use Rattle.model.specs.Report as model-report;
@@ -68,6 +69,18 @@ pub struct Replied {
 pub struct Looked {
     pub table: Table,
     pub found: Find,
+}
+
+// An open section and a find's answer.
+pub struct Searching {
+    pub section: Section,
+    pub found: Find,
+}
+
+// A queue and a report's answer.
+pub struct Released {
+    pub queue: Queue,
+    pub reply: Reply,
 }
 
 // A table and an insert's answer.
@@ -138,6 +151,35 @@ fn origin_of(ring: Ring, arena: &[u8], gone: usize, name: &[u8], value: &[u8]) -
         return Origin::NamedEntry(gone + k + 1);
     }
     Origin::Plain
+}
+
+// Whether a record that was checked, with an arena of a length, can be used.
+fn usable(sound: bool, room: usize) -> bool
+    ensures { λ r. ⌜ r ≡ («sound» && leb ringBytes room) ⌝ }
+{
+    if !sound {
+        return false;
+    }
+    RING <= room
+}
+
+// What a call answers before it looks further: 22, then 18 or 19, by whether it needs an open section.
+fn admitted(sound: bool, active: bool, wanted: bool) -> Reply
+    ensures { λ r. ⌜ r ≡ calls.admitted «sound» «active» «wanted» ⌝ }
+{
+    if !sound {
+        return Reply::Refused(Refusal::BadCall);
+    }
+    if active {
+        if wanted {
+            return Reply::Done;
+        }
+        return Reply::Refused(Refusal::SectionOpen);
+    }
+    if wanted {
+        return Reply::Refused(Refusal::NoSection);
+    }
+    Reply::Done
 }
 
 // A section's uses with one more of an entry.
@@ -261,23 +303,26 @@ impl Table {
         ensures { λ r. ⌜ Keeps self (calls.setCapacity self capacity) r (λ t. model-table.setCapacity t capacity) ⌝ }
     {
         let c = self.checked();
-        if !c.sound {
-            return refused(self, Refusal::BadCall);
-        }
-        if self.active {
-            return refused(self, Refusal::SectionOpen);
-        }
-        if let CapacityTest::Refused(why) = capacity_test(capacity) {
-            return refused(self, why);
-        }
-        let cut = self.ring.cut(c.low, capacity);
-        if !cut.made {
-            return refused(self, Refusal::ShrinkBlocked);
-        }
-        let ring = cut.ring;
+        let mut reply = admitted(c.sound, self.active, false);
         let mut next = self;
-        next.ring = ring;
-        done(next)
+        if let Reply::Done = reply {
+            let test = capacity_test(capacity);
+            match test {
+                CapacityTest::Refused(why) => {
+                    reply = Reply::Refused(why);
+                }
+                CapacityTest::Within => {
+                    let cut = self.ring.cut(c.low, capacity);
+                    if cut.made {
+                        let ring = cut.ring;
+                        next.ring = ring;
+                    } else {
+                        reply = Reply::Refused(Refusal::ShrinkBlocked);
+                    }
+                }
+            }
+        }
+        Replied { table: next, reply }
     }
 
     // Sets the blocked maximum.
@@ -285,43 +330,34 @@ impl Table {
         ensures { λ r. ⌜ Keeps self (calls.setMost self most) r (λ t. model-table.setBlockedMax t most) ⌝ }
     {
         let c = self.checked();
-        if !c.sound {
-            return refused(self, Refusal::BadCall);
-        }
-        if self.active {
-            return refused(self, Refusal::SectionOpen);
-        }
-        if BLOCKED_SECTIONS <= most {
-            return refused(self, Refusal::MaxBlockedStreamsTooLarge);
-        }
+        let mut reply = admitted(c.sound, self.active, false);
         let mut next = self;
-        next.most = most;
-        done(next)
+        if let Reply::Done = reply {
+            if BLOCKED_SECTIONS <= most {
+                reply = Reply::Refused(Refusal::MaxBlockedStreamsTooLarge);
+            } else {
+                next.most = most;
+            }
+        }
+        Replied { table: next, reply }
     }
 
     // Inserts a field that the peer sent, where it can be.
-    pub fn put(mut self, arena: &mut [u8], name: &[u8], value: &[u8]) -> Replied
+    pub fn put(self, arena: &mut [u8], name: &[u8], value: &[u8]) -> Replied
         ensures { λ r. ⌜ Puts self (now (arena .entry)) (now (arena .exit)) (calls.put self (now (arena .entry)) (now (name .entry)) (now (value .entry))) r (now (name .entry)) (now (value .entry)) ⌝ }
     {
         let c = self.checked();
-        if !c.sound {
-            return refused(self, Refusal::BadCall);
+        let mut reply = admitted(usable(c.sound, arena.len()), self.active, false);
+        let mut next = self;
+        if let Reply::Done = reply {
+            let ring = self.ring;
+            let p = ring.push(arena, c.low, Source::Given, name, value);
+            let pushed = p.ring;
+            let push = p.push;
+            next.ring = pushed;
+            reply = push_reply(ring.capacity, push);
         }
-        if arena.len() < RING {
-            return refused(self, Refusal::BadCall);
-        }
-        if self.active {
-            return refused(self, Refusal::SectionOpen);
-        }
-        let ring = self.ring;
-        let p = ring.push(arena, c.low, Source::Given, name, value);
-        let next = p.ring;
-        let push = p.push;
-        self.ring = next;
-        Replied {
-            table: self,
-            reply: push_reply(ring.capacity, push),
-        }
+        Replied { table: next, reply }
     }
 
     // Opens a section of a stream.
@@ -329,61 +365,69 @@ impl Table {
         ensures { λ r. ⌜ Keeps self (calls.begin self stream) r (λ t. model-section.begin t stream) ⌝ }
     {
         let c = self.checked();
-        if !c.sound {
-            return refused(self, Refusal::BadCall);
-        }
-        if self.active {
-            return refused(self, Refusal::SectionOpen);
-        }
-        let dropped = self.ring.dropped;
-        let none = Held {
-            offset: 0,
-            count: 0,
-        };
+        let reply = admitted(c.sound, self.active, false);
         let mut next = self;
-        next.active = true;
-        next.base = self.ring.inserted - dropped;
-        let section = Section {
-            stream,
-            from: dropped,
-            used: 0,
-            uses: [none; SECTION_ENTRIES],
-        };
-        next.section = section;
-        done(next)
+        if let Reply::Done = reply {
+            let dropped = self.ring.dropped;
+            let none = Held {
+                offset: 0,
+                count: 0,
+            };
+            let section = Section {
+                stream,
+                from: dropped,
+                used: 0,
+                uses: [none; SECTION_ENTRIES],
+            };
+            next.active = true;
+            next.base = self.ring.inserted - dropped;
+            next.section = section;
+        }
+        Replied { table: next, reply }
     }
 
     // The latest entry of a field, which the open section then uses.
     pub fn find(self, arena: &[u8], name: &[u8], value: &[u8]) -> Looked
         ensures { λ r. ⌜ Finds self (now (arena .entry)) (now (name .entry)) (now (value .entry)) r ⌝ }
     {
+        let s = self.searched(arena, name, value);
+        let section = s.section;
+        let found = s.found;
+        let mut next = self;
+        next.section = section;
+        Looked { table: next, found }
+    }
+
+    // What a find answers, and the open section after it.
+    fn searched(self, arena: &[u8], name: &[u8], value: &[u8]) -> Searching
+        ensures { λ r. ⌜ calls.searchedBy self r ≡ calls.find self (now (arena .entry)) (now (name .entry)) (now (value .entry)) ⌝ }
+    {
         let c = self.checked();
-        if !c.sound {
-            return not_found(self, Refusal::BadCall);
-        }
-        if arena.len() < RING {
-            return not_found(self, Refusal::BadCall);
-        }
-        if !self.active {
-            return not_found(self, Refusal::NoSection);
+        let section = self.section;
+        let reply = admitted(usable(c.sound, arena.len()), self.active, true);
+        if let Reply::Refused(why) = reply {
+            return Searching {
+                section,
+                found: Find::Refused(why),
+            };
         }
         let ring = self.ring;
         let Latest::At(k) = ring.newest(arena, ring.dropped, name, value, true) else {
-            return Looked {
-                table: self,
+            return Searching {
+                section,
                 found: Find::Found(Lookup::NotFound),
             };
         };
         let absolute = ring.dropped + k + 1;
-        let section = self.section;
         let noted = note(section, absolute);
         if !noted.fits {
-            return not_found(self, Refusal::TrackingFull);
+            return Searching {
+                section,
+                found: Find::Refused(Refusal::TrackingFull),
+            };
         }
-        let mut next = self;
-        next.section = with_uses(section, noted);
-        Looked {
-            table: next,
+        Searching {
+            section: with_uses(section, noted),
             found: Find::Found(lookup_of(self.base, absolute)),
         }
     }
@@ -474,30 +518,28 @@ impl Table {
         ensures { λ r. ⌜ Keeps self (calls.commit self largest) r (λ t. model-section.commit t largest) ⌝ }
     {
         let c = self.checked();
-        if !c.sound {
-            return refused(self, Refusal::BadCall);
-        }
-        if !self.active {
-            return refused(self, Refusal::NoSection);
-        }
-        if self.ring.inserted < largest {
-            return refused(self, Refusal::BadLargest);
-        }
-        let q = tracking::push(self.queue, self.section);
-        if !q.made {
-            return refused(self, Refusal::TrackingFull);
-        }
-        let w = waiting_with(self.waiting, self.known, largest);
-        if !w.fits {
-            return refused(self, Refusal::TrackingFull);
-        }
-        let waiting = w.waiting;
-        let queue = q.queue;
+        let mut reply = admitted(c.sound, self.active, true);
         let mut next = self;
-        next.waiting = waiting;
-        next.queue = queue;
-        next.active = false;
-        done(next)
+        if let Reply::Done = reply {
+            if self.ring.inserted < largest {
+                reply = Reply::Refused(Refusal::BadLargest);
+            } else {
+                let q = tracking::push(self.queue, self.section);
+                let w = waiting_with(self.waiting, self.known, largest);
+                if !q.made {
+                    reply = Reply::Refused(Refusal::TrackingFull);
+                } else if !w.fits {
+                    reply = Reply::Refused(Refusal::TrackingFull);
+                } else {
+                    let waiting = w.waiting;
+                    let queue = q.queue;
+                    next.waiting = waiting;
+                    next.queue = queue;
+                    next.active = false;
+                }
+            }
+        }
+        Replied { table: next, reply }
     }
 
     // Closes the open section and gives all its references back.
@@ -505,49 +547,55 @@ impl Table {
         ensures { λ r. ⌜ Keeps self (calls.abandon self) r (model-section.abandon) ⌝ }
     {
         let c = self.checked();
-        if !c.sound {
-            return refused(self, Refusal::BadCall);
-        }
-        if !self.active {
-            return refused(self, Refusal::NoSection);
-        }
+        let reply = admitted(c.sound, self.active, true);
         let mut next = self;
-        next.active = false;
-        done(next)
+        if let Reply::Done = reply {
+            next.active = false;
+        }
+        Replied { table: next, reply }
     }
 
     // The peer acknowledged a section of a stream.
     pub fn acknowledge(self, stream: u64) -> Replied
         ensures { λ r. ⌜ Keeps self (calls.release self stream) r (λ t. model-report.release t stream) ⌝ }
     {
-        self.release(stream)
+        let r = self.released(stream);
+        with_queue(self, r)
     }
 
     // The peer cancelled a stream.
     pub fn cancel(self, stream: u64) -> Replied
         ensures { λ r. ⌜ Keeps self (calls.release self stream) r (λ t. model-report.release t stream) ⌝ }
     {
-        self.release(stream)
+        let r = self.released(stream);
+        with_queue(self, r)
     }
 
-    // The release of the stream's oldest queued section.
-    fn release(mut self, stream: u64) -> Replied
-        ensures { λ r. ⌜ Keeps self (calls.release self stream) r (λ t. model-report.release t stream) ⌝ }
+    // What the release of a stream's oldest queued section answers, and the queue after it.
+    fn released(self, stream: u64) -> Released
+        ensures { λ r. ⌜ Keeps self (calls.release self stream) (calls.releasedBy self r) (λ t. model-report.release t stream) ⌝ }
     {
         let c = self.checked();
-        if !c.sound {
-            return refused(self, Refusal::BadCall);
+        let queue = self.queue;
+        let reply = admitted(c.sound, self.active, false);
+        if let Reply::Refused(why) = reply {
+            return Released {
+                queue,
+                reply: Reply::Refused(why),
+            };
         }
-        if self.active {
-            return refused(self, Refusal::SectionOpen);
-        }
-        let q = tracking::release(self.queue, stream);
+        let q = tracking::release(queue, stream);
         if !q.made {
-            return refused(self, Refusal::UnknownStreamId);
+            return Released {
+                queue,
+                reply: Reply::Refused(Refusal::UnknownStreamId),
+            };
         }
-        let queue = q.queue;
-        self.queue = queue;
-        done(self)
+        let left = q.queue;
+        Released {
+            queue: left,
+            reply: Reply::Done,
+        }
     }
 
     // The peer received more inserts.
@@ -555,48 +603,30 @@ impl Table {
         ensures { λ r. ⌜ Keeps self (calls.increment self inserts) r (λ t. model-report.increment t inserts) ⌝ }
     {
         let c = self.checked();
-        if !c.sound {
-            return refused(self, Refusal::BadCall);
-        }
-        if self.active {
-            return refused(self, Refusal::SectionOpen);
-        }
-        let known = self.known;
-        if LARGEST_COUNT - known < inserts {
-            return refused(self, Refusal::CountTooLarge);
-        }
+        let mut reply = admitted(c.sound, self.active, false);
         let mut next = self;
-        next.known = known + inserts;
-        next.waiting = tracking::let_go(self.waiting, known + inserts);
-        done(next)
+        if let Reply::Done = reply {
+            let known = self.known;
+            if LARGEST_COUNT - known < inserts {
+                reply = Reply::Refused(Refusal::CountTooLarge);
+            } else {
+                next.known = known + inserts;
+                next.waiting = tracking::let_go(self.waiting, known + inserts);
+            }
+        }
+        Replied { table: next, reply }
     }
 }
 
-fn done(table: Table) -> Replied
-    ensures { λ r. ⌜ r ≡ calls.answer table Reply.Done ⌝ }
+// A table with the queue that a report left.
+fn with_queue(table: Table, r: Released) -> Replied
+    ensures { λ o. ⌜ o ≡ calls.releasedBy table r ⌝ }
 {
-    Replied {
-        table,
-        reply: Reply::Done,
-    }
-}
-
-fn refused(table: Table, why: Refusal) -> Replied
-    ensures { λ r. ⌜ r ≡ calls.no table why ⌝ }
-{
-    Replied {
-        table,
-        reply: Reply::Refused(why),
-    }
-}
-
-fn not_found(table: Table, why: Refusal) -> Looked
-    ensures { λ r. ⌜ r ≡ calls.looked table (Find.Refused why) ⌝ }
-{
-    Looked {
-        table,
-        found: Find::Refused(why),
-    }
+    let queue = r.queue;
+    let reply = r.reply;
+    let mut next = table;
+    next.queue = queue;
+    Replied { table: next, reply }
 }
 
 fn not_inserted(table: Table, why: Refusal) -> Inserting

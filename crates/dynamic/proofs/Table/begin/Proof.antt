@@ -1,64 +1,51 @@
--- `dynamic::Table::begin`: a broken record, an open section, or a new one. Assumes nothing.
-use mathlib.Core.Path.{_∙_}
-use borrow.Author.Tests.{not-true, not-false}
-use Rattle.ring.proofs.Keeping.{kept}
-use Rattle.dynamic.proofs.Sections.{begin-keeps, begin-broken, begin-open, begin-done}
-use Rattle.dynamic.proofs.Sound.{facts}
-use Rattle.dynamic.proofs.Told.{checked-false, checked-true}
+-- `dynamic::Table::begin`: what was not admitted, or a new section. Assumes nothing.
+use mathlib.Core.Path.{_≡_, ap, _∙_}
 use borrow.Author.Needs.{needs}
+use Rattle.ring.proofs.Keeping.{kept}
+use Rattle.dynamic.specs.Calls.{answer}
+use Rattle.dynamic.specs.Record.{sound}
+use Rattle.dynamic.proofs.Sections.{begun, begin-keeps, begin-refused, begin-done}
+use Rattle.dynamic.proofs.Sound.{facts}
+use Rattle.dynamic.proofs.Steps.{closed-passed}
+use Rattle.dynamic.proofs.Told.{told-sound}
 use Rattle.dynamic.proofs.Table.begin.Statement.{statement}
 use Rattle.dynamic.proofs.Table.begin.Tie as tie
+
+tells : (c : tie.After-checked) → c .checked .result .sound ≡ sound (c .before .args .self)
+tells c = told-sound (c .before .args .self) (c .checked .result) (c .checked .ensures)
 
 checked-requires : tie.Need-checked-requires
 checked-requires c κs = search needs
 
-refused-requires : tie.Need-refused-requires
-refused-requires c κs = search needs
+admitted-requires : tie.Need-admitted-requires
+admitted-requires c κs = search needs
 
-returns : tie.Need-returns
-returns c =
-    let z = c .before .before .before .before in
-    let t = z .args .self in
-    let broken = checked-false _ _ (c .before .before .before .checked .ensures) (not-true _ (c .before .if1 .taken)) in
-    begin-keeps t (z .args .stream) _
-    (c .refused .ensures ∙ begin-broken t (z .args .stream) broken)
-
-refused-requires-2 : tie.Need-refused-requires-2
-refused-requires-2 c κs = search needs
-
-returns-2 : tie.Need-returns-2
-returns-2 c =
-    let z = c .before .before .before .before .before in
-    let t = z .args .self in
-    let rules = checked-true _ _ (c .before .before .before .before .checked .ensures) (not-false _ (c .before .before .if1 .left)) in
-    begin-keeps t (z .args .stream) _
-    (c .refused2 .ensures ∙ begin-open t (z .args .stream) rules (c .before .if2 .taken))
+enum-told : tie.Need-enum-told
+enum-told c = search needs
 
 sub-next : tie.Need-sub-next
 sub-next c =
-    let rules = checked-true _ _ (c .before .before .before .before .checked .ensures) (not-false _ (c .before .before .if1 .left)) in
-    kept _ (facts _ rules .ring) .rules .order
+    let a = c .before .before .before in
+    let closed = closed-passed _ _ _ (tells (a .before)) (a .admitted .ensures) (c .before .enum-told .given .1) in
+    kept _ (facts _ (closed .0) .ring) .rules .order
 
-done-requires : tie.Need-done-requires
-done-requires c κs = search needs
+returns : tie.Need-returns
+returns c =
+    let a = c .before .before .before in
+    let z = a .before .before .args in
+    let passed = c .before .enum-told .given .1 in
+    let closed = closed-passed (z .self) _ _ (tells (a .before)) (a .admitted .ensures) passed in
+    begin-keeps (z .self) (z .stream) _ (ap (answer (begun (z .self) (z .stream))) passed ∙ begin-done (z .self) (z .stream) (closed .0) (closed .1))
 
-returns-3 : tie.Need-returns-3
-returns-3 c =
-    let z = c .before .before .before .before .before .before in
-    let t = z .args .self in
-    let rules = checked-true _ _ (c .before .before .before .before .before .checked .ensures) (not-false _ (c .before .before .before .if1 .left)) in
-    begin-keeps t (z .args .stream) _
-    (c .done .ensures ∙ begin-done t (z .args .stream) rules (c .before .before .if2 .left))
+enum-told-2 : tie.Need-enum-told-2
+enum-told-2 c = search needs
+
+returns-2 : tie.Need-returns-2
+returns-2 c =
+    let a = c .before .before in
+    let z = a .before .before .args in
+    begin-keeps (z .self) (z .stream) _
+    (begin-refused (z .self) (z .stream) _ _ _ (tells (a .before)) (c .enum-told2 .given .1) (a .admitted .ensures))
 
 pub begin-spec : {M : Type 1} → statement M
-begin-spec =
-    tie.close
-    (tie.spec
-    checked-requires
-    refused-requires
-    returns
-    refused-requires-2
-    returns-2
-    sub-next
-    done-requires
-    returns-3)
+begin-spec = tie.close (tie.spec checked-requires admitted-requires enum-told sub-next enum-told-2 returns returns-2)

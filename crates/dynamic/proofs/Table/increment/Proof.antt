@@ -1,59 +1,47 @@
--- `dynamic::Table::increment`: a broken record, an open section, a count too large, or a raise. Assumes nothing.
-use mathlib.Core.Path.{_≡_, _∙_}
+-- `dynamic::Table::increment`: what was not admitted, a count too large, or a raise. Assumes nothing.
+use mathlib.Core.Path.{_≡_, ap, _∙_}
+use mathlib.Core.Bool.{true, false}
+use Prim.Native.Nat.{_+_}
 use native.Mathlib.Omega.{arith}
 use lib.ListN.{length, length-map}
-use borrow.Author.Tests.{not-true, not-false}
-use Rattle.model.specs.Bounds.{blockedValues}
-use Rattle.dynamic.proofs.Reports.{increment-keeps, increment-broken, increment-open, increment-past, increment-done}
-use Rattle.dynamic.proofs.Sound.{facts}
-use Rattle.dynamic.proofs.Told.{checked-false, checked-true}
 use borrow.Author.Needs.{needs}
+use Rattle.model.specs.Bounds.{blockedValues}
+use Rattle.dynamic.specs.Calls.{answer, raised}
+use Rattle.dynamic.specs.Record.{sound}
+use Rattle.dynamic.proofs.Reports.{increment-keeps, increment-refused, increment-past, increment-done}
+use Rattle.dynamic.proofs.Sound.{facts}
+use Rattle.dynamic.proofs.Steps.{closed-passed}
+use Rattle.dynamic.proofs.Told.{told-sound}
 use Rattle.dynamic.proofs.Table.increment.Statement.{statement}
 use Rattle.dynamic.proofs.Table.increment.Tie as tie
 
 long : (z : tie.Start) → length (z .args .self .waiting .values) ≡ blockedValues
 long z = simp length-map at (z .good .0 .1 .1 .1 .1 .1 .0 .1 .1 .1 .1 .0 .1 .0 .1)
 
+tells : (c : tie.After-checked) → c .checked .result .sound ≡ sound (c .before .args .self)
+tells c = told-sound (c .before .args .self) (c .checked .result) (c .checked .ensures)
+
+-- the call was admitted
+passed : (c : tie.After-enum-told) → let t = c .before .before .before .before .args .self in (sound t ≡ true) × (t .active ≡ false)
+passed c = let a = c .before .before in closed-passed _ _ _ (tells (a .before)) (a .admitted .ensures) (c .enum-told .given .1)
+
 checked-requires : tie.Need-checked-requires
 checked-requires c κs = search needs
 
-refused-requires : tie.Need-refused-requires
-refused-requires c κs = search needs
+admitted-requires : tie.Need-admitted-requires
+admitted-requires c κs = search needs
+
+enum-told : tie.Need-enum-told
+enum-told c = search needs
+
+sub-if1 : tie.Need-sub-if1
+sub-if1 c = facts _ (passed c .0) .known
 
 returns : tie.Need-returns
 returns c =
-    let z = c .before .before .before .before in
-    let t = z .args .self in
-    let broken = checked-false _ _ (c .before .before .before .checked .ensures) (not-true _ (c .before .if1 .taken)) in
-    increment-keeps t (z .args .inserts) _ (long z)
-    (c .refused .ensures ∙ increment-broken t (z .args .inserts) broken)
-
-refused-requires-2 : tie.Need-refused-requires-2
-refused-requires-2 c κs = search needs
-
-returns-2 : tie.Need-returns-2
-returns-2 c =
+    let p = passed (c .before) in
     let z = c .before .before .before .before .before in
-    let t = z .args .self in
-    let rules = checked-true _ _ (c .before .before .before .before .checked .ensures) (not-false _ (c .before .before .if1 .left)) in
-    increment-keeps t (z .args .inserts) _ (long z)
-    (c .refused2 .ensures ∙ increment-open t (z .args .inserts) rules (c .before .if2 .taken))
-
-sub-if3 : tie.Need-sub-if3
-sub-if3 c =
-    let rules = checked-true _ _ (c .before .before .before .checked .ensures) (not-false _ (c .before .if1 .left)) in
-    facts _ rules .known
-
-refused-requires-3 : tie.Need-refused-requires-3
-refused-requires-3 c κs = search needs
-
-returns-3 : tie.Need-returns-3
-returns-3 c =
-    let z = c .before .before .before .before .before .before in
-    let t = z .args .self in
-    let rules = checked-true _ _ (c .before .before .before .before .before .checked .ensures) (not-false _ (c .before .before .before .if1 .left)) in
-    increment-keeps t (z .args .inserts) _ (long z)
-    (c .refused3 .ensures ∙ increment-past t (z .args .inserts) rules (c .before .before .if2 .left) (omega (arith, facts _ rules .known)))
+    increment-keeps _ _ _ (long z) (increment-past (z .args .self) (z .args .inserts) (p .0) (p .1) (omega (arith, facts _ (p .0) .known, c .if1 .taken)))
 
 add-next : tie.Need-add-next
 add-next c = search needs
@@ -64,32 +52,38 @@ add-let-go c = search needs
 let-go-requires : tie.Need-let-go-requires
 let-go-requires c κs = search needs
 
-done-requires : tie.Need-done-requires
-done-requires c κs = search needs
-
-returns-4 : tie.Need-returns-4
-returns-4 c =
-    let z = c .before .before .before .before .before .before .before in
+returns-2 : tie.Need-returns-2
+returns-2 c =
+    let e = c .before .before in
+    let p = passed e in
+    let z = e .before .before .before .before in
     let t = z .args .self in
-    let rules = checked-true _ _ (c .before .before .before .before .before .before .checked .ensures) (not-false _ (c .before .before .before .before .if1 .left)) in
-    increment-keeps t (z .args .inserts) _ (long z) (rw
-    (c .before .let-go .ensures) at (c .done .ensures)
-    ∙ increment-done t (z .args .inserts) rules (c .before .before .before .if2 .left) (omega (arith, facts _ rules .known)))
+    increment-keeps t _ _ (long z) (rw (c .let-go .ensures)
+    (ap (answer (raised (t .known + z .args .inserts) t)) (e .enum-told .given .1)
+    ∙ increment-done t (z .args .inserts) (p .0) (p .1) (omega (arith, facts _ (p .0) .known, c .before .if1 .left))))
+
+enum-told-2 : tie.Need-enum-told-2
+enum-told-2 c = search needs
+
+returns-3 : tie.Need-returns-3
+returns-3 c =
+    let a = c .before .before in
+    let z = a .before .before in
+    increment-keeps _ _ _ (long z)
+    (increment-refused (z .args .self) (z .args .inserts) _ _ _ (tells (a .before)) (c .enum-told2 .given .1) (a .admitted .ensures))
 
 pub increment-spec : {M : Type 1} → statement M
 increment-spec =
     tie.close
     (tie.spec
     checked-requires
-    refused-requires
-    returns
-    refused-requires-2
-    returns-2
-    sub-if3
-    refused-requires-3
-    returns-3
+    admitted-requires
+    enum-told
+    sub-if1
     add-next
     add-let-go
     let-go-requires
-    done-requires
-    returns-4)
+    enum-told-2
+    returns
+    returns-2
+    returns-3)

@@ -1,68 +1,49 @@
--- The proof of `Table::set_max_blocked`: each return is the call's exact answer, by the tests that led there. Assumes nothing.
-use mathlib.Core.Path.{_≡_, sym, _∙_}
-use mathlib.Core.Bool.{true}
+-- `dynamic::Table::set_max_blocked`: each return is the call's exact answer, by the tests that led there. Assumes nothing.
+use mathlib.Core.Path.{_≡_, ap, _∙_}
+use mathlib.Core.Bool.{true, false}
 use borrow.Author.Needs.{needs}
-use borrow.Author.Tests.{not-true, not-false}
-use Rattle.dynamic.specs.Calls.{setMost}
+use Rattle.dynamic.specs.Calls.{answer, withMost, setMost}
 use Rattle.dynamic.specs.Record.{sound}
 use Rattle.dynamic.proofs.Told.{told-sound}
 use Rattle.dynamic.proofs.Setting.{sets-most, most-over, most-set}
-use Rattle.dynamic.proofs.Steps.{closed-broken, closed-open}
+use Rattle.dynamic.proofs.Steps.{closed-passed, closed-refused}
 use Rattle.dynamic.proofs.Table.set_max_blocked.Statement.{statement}
 use Rattle.dynamic.proofs.Table.set_max_blocked.Tie as tie
 
 tells : (c : tie.After-checked) → c .checked .result .sound ≡ sound (c .before .args .self)
 tells c = told-sound (c .before .args .self) (c .checked .result) (c .checked .ensures)
 
-keeps-rules : (c : tie.Else1) → sound (c .before .before .before .args .self) ≡ true
-keeps-rules c = sym (tells (c .before .before)) ∙ not-false _ (c .if1 .left)
+-- the call was admitted
+passed : (c : tie.After-enum-told) → let t = c .before .before .before .before .args .self in (sound t ≡ true) × (t .active ≡ false)
+passed c = let a = c .before .before in closed-passed _ _ _ (tells (a .before)) (a .admitted .ensures) (c .enum-told .given .1)
 
 checked-requires : tie.Need-checked-requires
 checked-requires c κs = search needs
 
-refused-requires : tie.Need-refused-requires
-refused-requires c κs = search needs
+admitted-requires : tie.Need-admitted-requires
+admitted-requires c κs = search needs
+
+enum-told : tie.Need-enum-told
+enum-told c = search needs
 
 returns : tie.Need-returns
-unfolding setMost
-returns c =
-    let then = c .before in
-    sets-most _ _
-    (c .refused .ensures ∙ closed-broken _ _ (sym (tells (then .before .before)) ∙ not-true _ (then .if1 .taken)))
-
-refused-requires-2 : tie.Need-refused-requires-2
-refused-requires-2 c κs = search needs
+returns c = let p = passed (c .before) in sets-most _ _ (most-over _ _ (p .0) (p .1) (c .if1 .taken))
 
 returns-2 : tie.Need-returns-2
-unfolding setMost
-returns-2 c = sets-most _ _ (c .refused2 .ensures ∙ closed-open _ _ (keeps-rules (c .before .before)) (c .before .if2 .taken))
+returns-2 c =
+    let e = c .before in
+    let z = e .before .before .before .before .args in
+    sets-most _ _
+    (ap (answer (withMost (z .most) (z .self))) (e .enum-told .given .1) ∙ most-set _ _ (passed e .0) (passed e .1) (c .if1 .left))
 
-refused-requires-3 : tie.Need-refused-requires-3
-refused-requires-3 c κs = search needs
+enum-told-2 : tie.Need-enum-told-2
+enum-told-2 c = search needs
 
 returns-3 : tie.Need-returns-3
+unfolding setMost
 returns-3 c =
-    let closed = c .before .before in
-    sets-most _ _ (c .refused3 .ensures ∙ most-over _ _ (keeps-rules (closed .before)) (closed .if2 .left) (c .before .if3 .taken))
-
-done-requires : tie.Need-done-requires
-done-requires c κs = search needs
-
-returns-4 : tie.Need-returns-4
-returns-4 c =
-    let closed = c .before .before in
-    sets-most _ _ (c .done .ensures ∙ most-set _ _ (keeps-rules (closed .before)) (closed .if2 .left) (c .before .if3 .left))
+    let a = c .before .before in
+    sets-most _ _ (closed-refused _ _ _ (tells (a .before)) _ _ (c .enum-told2 .given .1) (a .admitted .ensures))
 
 pub set-max-blocked-spec : {M : Type 1} → statement M
-set-max-blocked-spec =
-    tie.close
-    (tie.spec
-    checked-requires
-    refused-requires
-    returns
-    refused-requires-2
-    returns-2
-    refused-requires-3
-    returns-3
-    done-requires
-    returns-4)
+set-max-blocked-spec = tie.close (tie.spec checked-requires admitted-requires enum-told enum-told-2 returns returns-2 returns-3)
