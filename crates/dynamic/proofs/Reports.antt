@@ -166,8 +166,3 @@ module _ (t : Table) (n : ℕ) where
         where
           counts : Bool → Replied
           counts b = cond b (no t CountTooLarge) (answer (raised (t .known + n) t) Reply.Done)
-
--- a promise holds of what equals what it was shown of
-pub release-as : (t : Table) (stream : ℕ) {r s : Replied} → r ≡ s → Keeps t (release t stream) s (λ m. report.release m stream)
-    → Keeps t (release t stream) r (λ m. report.release m stream)
-release-as t stream e k = rw e k

@@ -42,9 +42,7 @@ use Rattle.dynamic.specs.declared.Inserting.{Inserting}
 use Rattle.dynamic.specs.declared.Looked.{Looked}
 use Rattle.dynamic.specs.declared.Origin.{Origin as Naming}
 use Rattle.dynamic.specs.declared.Origin.the-variants.{EqualEntry, StaticName, NamedEntry, Plain}
-use Rattle.dynamic.specs.declared.Released.{Released}
 use Rattle.dynamic.specs.declared.Replied.{Replied}
-use Rattle.dynamic.specs.declared.Searching.{Searching}
 use Rattle.dynamic.specs.declared.Table.{Table}
 use Rattle.dynamic.specs.Record.{sound, usable, lowestUsed}
 -- the parts that need no record
@@ -258,10 +256,6 @@ find t a n v =
     (cond (t .active) (foundAt t (latestOf t a n v true)) (looked t (Find.Refused NoSection)))
     (looked t (Find.Refused BadCall))
 
--- a table with another open section, and a find's answer
-abbrev pub searchedBy : Table → Searching → Looked
-searchedBy t s = looked (withSection (t .active) (t .base) (s .section) t) (s .found)
-
 -- ---- the insert of a section
 
 abbrev pub inserting : Table → Insert → Inserting
@@ -365,10 +359,6 @@ release t stream =
     (cond (releasing (t .queue) stream .made)
     (answer (withQueue (releasing (t .queue) stream .queue) t) Reply.Done)
     (no t UnknownStreamId))
-
--- a table with another queue, and a report's answer
-abbrev pub releasedBy : Table → Released → Replied
-releasedBy t r = answer (withQueue (r .queue) t) (r .reply)
 
 unfoldable pub increment : Table → ℕ → Replied
 increment t n =

@@ -71,18 +71,6 @@ pub struct Looked {
     pub found: Find,
 }
 
-// An open section and a find's answer.
-pub struct Searching {
-    pub section: Section,
-    pub found: Find,
-}
-
-// A queue and a report's answer.
-pub struct Released {
-    pub queue: Queue,
-    pub reply: Reply,
-}
-
 // A table and an insert's answer.
 pub struct Inserting {
     pub table: Table,
@@ -390,46 +378,31 @@ impl Table {
     pub fn find(self, arena: &[u8], name: &[u8], value: &[u8]) -> Looked
         ensures { λ r. ⌜ Finds self (now (arena .entry)) (now (name .entry)) (now (value .entry)) r ⌝ }
     {
-        let s = self.searched(arena, name, value);
-        let section = s.section;
-        let found = s.found;
-        let mut next = self;
-        next.section = section;
-        Looked { table: next, found }
-    }
-
-    // What a find answers, and the open section after it.
-    fn searched(self, arena: &[u8], name: &[u8], value: &[u8]) -> Searching
-        ensures { λ r. ⌜ calls.searchedBy self r ≡ calls.find self (now (arena .entry)) (now (name .entry)) (now (value .entry)) ⌝ }
-    {
         let c = self.checked();
-        let section = self.section;
         let reply = admitted(usable(c.sound, arena.len()), self.active, true);
-        if let Reply::Refused(why) = reply {
-            return Searching {
-                section,
-                found: Find::Refused(why),
-            };
+        let mut next = self;
+        let mut found = Find::Found(Lookup::NotFound);
+        match reply {
+            Reply::Refused(why) => {
+                found = Find::Refused(why);
+            }
+            Reply::Done => {
+                let ring = self.ring;
+                let latest = ring.newest(arena, ring.dropped, name, value, true);
+                if let Latest::At(k) = latest {
+                    let absolute = ring.dropped + k + 1;
+                    let section = self.section;
+                    let noted = note(section, absolute);
+                    if noted.fits {
+                        next.section = with_uses(section, noted);
+                        found = Find::Found(lookup_of(self.base, absolute));
+                    } else {
+                        found = Find::Refused(Refusal::TrackingFull);
+                    }
+                }
+            }
         }
-        let ring = self.ring;
-        let Latest::At(k) = ring.newest(arena, ring.dropped, name, value, true) else {
-            return Searching {
-                section,
-                found: Find::Found(Lookup::NotFound),
-            };
-        };
-        let absolute = ring.dropped + k + 1;
-        let noted = note(section, absolute);
-        if !noted.fits {
-            return Searching {
-                section,
-                found: Find::Refused(Refusal::TrackingFull),
-            };
-        }
-        Searching {
-            section: with_uses(section, noted),
-            found: Find::Found(lookup_of(self.base, absolute)),
-        }
+        Looked { table: next, found }
     }
 
     // Inserts a field that the open section then uses, or says what names it.
@@ -559,43 +532,32 @@ impl Table {
     pub fn acknowledge(self, stream: u64) -> Replied
         ensures { λ r. ⌜ Keeps self (calls.release self stream) r (λ t. model-report.release t stream) ⌝ }
     {
-        let r = self.released(stream);
-        with_queue(self, r)
+        self.release(stream)
     }
 
     // The peer cancelled a stream.
     pub fn cancel(self, stream: u64) -> Replied
         ensures { λ r. ⌜ Keeps self (calls.release self stream) r (λ t. model-report.release t stream) ⌝ }
     {
-        let r = self.released(stream);
-        with_queue(self, r)
+        self.release(stream)
     }
 
-    // What the release of a stream's oldest queued section answers, and the queue after it.
-    fn released(self, stream: u64) -> Released
-        ensures { λ r. ⌜ Keeps self (calls.release self stream) (calls.releasedBy self r) (λ t. model-report.release t stream) ⌝ }
+    // The release of the stream's oldest queued section.
+    fn release(mut self, stream: u64) -> Replied
+        ensures { λ r. ⌜ Keeps self (calls.release self stream) r (λ t. model-report.release t stream) ⌝ }
     {
         let c = self.checked();
-        let queue = self.queue;
-        let reply = admitted(c.sound, self.active, false);
-        if let Reply::Refused(why) = reply {
-            return Released {
-                queue,
-                reply: Reply::Refused(why),
-            };
+        let mut reply = admitted(c.sound, self.active, false);
+        if let Reply::Done = reply {
+            let q = tracking::release(self.queue, stream);
+            if q.made {
+                let queue = q.queue;
+                self.queue = queue;
+            } else {
+                reply = Reply::Refused(Refusal::UnknownStreamId);
+            }
         }
-        let q = tracking::release(queue, stream);
-        if !q.made {
-            return Released {
-                queue,
-                reply: Reply::Refused(Refusal::UnknownStreamId),
-            };
-        }
-        let left = q.queue;
-        Released {
-            queue: left,
-            reply: Reply::Done,
-        }
+        Replied { table: self, reply }
     }
 
     // The peer received more inserts.
@@ -616,17 +578,6 @@ impl Table {
         }
         Replied { table: next, reply }
     }
-}
-
-// A table with the queue that a report left.
-fn with_queue(table: Table, r: Released) -> Replied
-    ensures { λ o. ⌜ o ≡ calls.releasedBy table r ⌝ }
-{
-    let queue = r.queue;
-    let reply = r.reply;
-    let mut next = table;
-    next.queue = queue;
-    Replied { table: next, reply }
 }
 
 fn not_inserted(table: Table, why: Refusal) -> Inserting
