@@ -10,7 +10,7 @@ use Rattle.answers.specs.declared.Find.{Find}
 use Rattle.answers.specs.declared.Find.the-variants.{Found}
 use Rattle.answers.specs.declared.Lookup.the-variants.{NotFound}
 use Rattle.answers.specs.declared.Refusal.{Refusal}
-use Rattle.answers.specs.declared.Refusal.the-variants.{NoSection, TrackingFull, BadCall}
+use Rattle.answers.specs.declared.Refusal.the-variants.{NoSection, TrackingFull}
 use Rattle.answers.specs.declared.Reply.{Reply}
 use Rattle.arena.specs.Ring.{longEnough}
 use Rattle.entries.proofs.Chain.{and-left, and-right}

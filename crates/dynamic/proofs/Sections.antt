@@ -11,7 +11,7 @@ use borrow.Author.Tests.{le-leb, lt-leb, le-ltb, lt-ltb, ltb-true, ltb-false}
 use Rattle.answers.specs.Answer.{done}
 use Rattle.answers.specs.Table.{replied, ok}
 use Rattle.answers.specs.declared.Refusal.{Refusal}
-use Rattle.answers.specs.declared.Refusal.the-variants.{SectionOpen, NoSection, TrackingFull, BadLargest, BadCall}
+use Rattle.answers.specs.declared.Refusal.the-variants.{TrackingFull, BadLargest}
 use Rattle.answers.specs.declared.Reply.{Reply}
 use Rattle.model.specs.Bounds.{queuePlaces, blockedValues, blockedSections}
 use Rattle.model.specs.Section as section

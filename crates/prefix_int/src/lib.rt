@@ -1,7 +1,7 @@
 // Prefix integers, RFC 7541 5.1: a value that starts in the low bits of a byte and goes on, where it
 // does not fit there, in groups of 7 bits, lowest first.
 ghost use mathlib.Core.Path.{_≡_};
-ghost use Prim.Native.Nat.{_^_, _≤_, _<_};
+ghost use Prim.Native.Nat.{_<_};
 ghost use lib.ListN.{drop};
 ghost use Rattle.prefix_int.specs.Integer.{groups, intAt, intRead};
 use answers::Refusal;

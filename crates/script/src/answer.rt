@@ -1,6 +1,5 @@
 // An answer: its number, its words and its values, and how it is written.
 use crate::text;
-use crate::text::Line;
 use answers::Find;
 use answers::Insert;
 use answers::Insertion;
