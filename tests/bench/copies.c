@@ -11,6 +11,8 @@
 
 static size_t bytes, copies;
 static uint8_t arena[QPACK_ARENA_BYTES];
+static uint8_t out[64];
+static qpack_field fields[1];
 
 void *__real_memcpy(void *to, const void *from, size_t n);
 void *__real_memmove(void *to, const void *from, size_t n);
@@ -48,6 +50,16 @@ static void told(const char *call, size_t answer) {
 #define TABLE(call, made) CALL(struct qpack_outcome, call, made)
 #define NAMED(call, made) CALL(struct qpack_named_outcome, call, made)
 
+#define ENCODER(call, ...) \
+    CALL(struct qpack_encoder_outcome, call, qpack_on_encoder_recv(t, arena, sizeof arena, __VA_ARGS__, out, sizeof out))
+#define DECODER(call, ...) CALL(struct qpack_decoder_outcome, call, qpack_on_decoder_recv(t, __VA_ARGS__))
+#define SECTION(call, made)              \
+    do {                                 \
+        struct qpack_section_outcome o;  \
+        bytes = copies = 0;              \
+        o = made;                        \
+        told(call, o.answer);            \
+    } while (0)
 #define TEXT(s) (const uint8_t *)(s), sizeof(s) - 1
 
 int main(void) {
@@ -74,6 +86,16 @@ int main(void) {
     t = qpack_begin(t, 8).table;
     TABLE("begin, refused", qpack_begin(t, 8));
     TABLE("abandon", qpack_abandon(t));
+    ENCODER("encoder stream, nothing", TEXT(""));
+    ENCODER("encoder stream, one capacity", TEXT("\x3f\x81\x1f"));
+    ENCODER("encoder stream, one insert", TEXT("\x41n\x01v"));
+    ENCODER("encoder stream, two inserts", TEXT("\x41n\x01v\x41n\x01v"));
+    DECODER("decoder stream, nothing", TEXT(""));
+    DECODER("decoder stream, one increment", TEXT("\x01"));
+    t = qpack_commit(qpack_begin(t, 8).table, 0).table;
+    DECODER("decoder stream, one report", TEXT("\x88"));
+    SECTION("section, one line", qpack_read_section(t, arena, sizeof arena, TEXT("\x00\x00\xc1"), fields, 1, out, sizeof out));
+    SECTION("section with no table, one line", qpack_read_stateless(TEXT("\x00\x00\xc1"), 100, fields, 1, out, sizeof out));
     t.known = SIZE_MAX;
     TABLE("begin, unsound", qpack_begin(t, 8));
     return 0;
