@@ -5,11 +5,9 @@ use mathlib.Core.List.{List}
 use mathlib.Core.Option.{Option, some, none}
 use Prim.Native.Nat.{ℕ, _≤_}
 use native.Mathlib.Omega.{arith}
-use lib.Dec.{ltb}
-use lib.ListN.{getD, drop}
-use borrow.Author.Tests.{le-ltb}
+use lib.ListN.{getD}
 use Rattle.answers.specs.Answer.{Answer, done, refused, answerNumber, andThen, endsEarly, cutShort}
-use Rattle.block.proofs.Rows.{from-row, text-row, value-row}
+use Rattle.block.proofs.Rows.{value-row}
 use Rattle.decoder_stream.specs.Reports.{reportAt}
 use Rattle.forms.specs.Forms.{formOf, hasForm, decoderKind, encoderKind}
 use Rattle.forms.specs.declared.EncoderInstruction.{EncoderInstruction}
@@ -18,8 +16,10 @@ use Rattle.forms.specs.declared.Kind.{Kind}
 use Rattle.forms.specs.declared.Kind.the-variants.{Encoder, Decoder}
 use Rattle.forms.proofs.Every.{width-low, width-high}
 use Rattle.instructions.specs.Instruction.{ofKind, instructionAt}
-use Rattle.prefix_int.specs.Integer.{intFrom, intAt}
+use Rattle.prefix_int.specs.Integer.{intAt}
+use Rattle.prefix_int.proofs.Rows as rows
 use Rattle.prefix_string.specs.Text.{textAt}
+use Rattle.prefix_string.proofs.Rows.{text-row}
 use Rattle.running.specs.Run.{found}
 use Rattle.shapes.specs.Shapes.{valueWidth, textAfter, textsAt}
 use Rattle.stream.specs.Instructions.{kindInt, pastLimit, withinLimit, integerAt, nameRefAt, literalAt}
@@ -49,9 +49,7 @@ pub low-row : {A : Type 0} (x : Answer A) → answerNumber x ≤ 3 → Row x
 low-row x h = record { not-22 = λ e. omega arith }
 
 pub int-row : (s : List ℕ) (at n : ℕ) → 1 ≤ n → n ≤ 8 → Row (intAt s at n)
-int-row s at n low high =
-    past-row (ltb n 1) _ _ (le-ltb n 1 low)
-    (past-row (ltb 8 n) _ _ (le-ltb 8 n high) (low-row (intFrom n (drop at s) at) (from-row n (drop at s) at)))
+int-row s at n low high = low-row (intAt s at n) (rows.int-row s at n low high)
 
 after-row : (s : List ℕ) (at : ℕ) → Row (textAt s at valueWidth)
 after-row s at = low-row (textAt s at valueWidth) (value-row s at)

@@ -10,7 +10,7 @@ use lib.Arith.{digits-lt}
 use lib.Count.{leadingZeros, leading-top}
 use lib.Dec.{lit<, ltb}
 use lib.ListN.{length, set}
-use lib.Pow.{pow-add, pow-mono}
+use lib.Pow.{pow-add, pow-mono, pow-pos}
 use lib.Seq.{sets}
 use borrow.Author.Tests.{lt-ltb, le-ltb, ltb-true, ltb-false}
 use Rattle.answers.specs.Answer.{done, refused}
@@ -131,17 +131,20 @@ pub record Good (k n f : ℕ) : Type 0 where
   pub high : n ≤ k
   pub flags : f < 2 ^ (k - n)
 
-module _ (k n f : ℕ) where
-  pub call-good : cond (ltb n 1) false (cond (ltb k n) false (ltb f (2 ^ (k - n)))) ≡ true → Good k n f
-  call-good h = go (ltb n 1) (ltb k n) refl refl h
+module _ (n f : ℕ) where
+  pub call-good : goodCall n f ≡ true → Good 8 n f
+  call-good h = go (ltb n 1) (ltb 8 n) refl refl h
     where
-      go : (s t : Bool) → ltb n 1 ≡ s → ltb k n ≡ t → cond s false (cond t false (ltb f (2 ^ (k - n)))) ≡ true → Good k n f
+      go : (s t : Bool) → ltb n 1 ≡ s → ltb 8 n ≡ t → cond s false (cond t false (ltb f (2 ^ (8 - n)))) ≡ true → Good 8 n f
       go true t p q h = let z : _≡_ {A = ℕ} 0 1 = cc in absurd (omega arith)
       go false true p q h = let z : _≡_ {A = ℕ} 0 1 = cc in absurd (omega arith)
-      go false false p q h = record { low = ltb-false n 1 p; high = ltb-false k n q; flags = ltb-true f (2 ^ (k - n)) h }
+      go false false p q h = record { low = ltb-false n 1 p; high = ltb-false 8 n q; flags = ltb-true f (2 ^ (8 - n)) h }
 
-  pub good-call : Good k n f → cond (ltb n 1) false (cond (ltb k n) false (ltb f (2 ^ (k - n)))) ≡ true
-  good-call g = rw (le-ltb n 1 (g .low), le-ltb k n (g .high), lt-ltb f (2 ^ (k - n)) (g .flags))
+  pub good-call : Good 8 n f → goodCall n f ≡ true
+  good-call g = rw (le-ltb n 1 (g .low), le-ltb 8 n (g .high), lt-ltb f (2 ^ (8 - n)) (g .flags))
+
+pub width-call : (n : ℕ) → 1 ≤ n → n ≤ 8 → goodCall n 0 ≡ true
+width-call n low high = good-call n 0 (record { low = low; high = high; flags = pow-pos (8 - n) })
 
 module _ (n f v : ℕ) where
   pub bytes-bad : goodCall n f ≡ false → intBytes n f v ≡ refused BadCall

@@ -12,7 +12,8 @@ use lib.Seq.{getD-drop}
 use borrow.Author.Tests.{ltb-true, ltb-false}
 use Rattle.answers.specs.Answer.{done, refused}
 use Rattle.answers.specs.declared.Refusal.the-variants.{BadCall}
-use Rattle.prefix_int.specs.Integer.{Integer, groups, intFrom, intAt, spell, encode}
+use Rattle.int_writing.proofs.Writing.{call-good}
+use Rattle.prefix_int.specs.Integer.{Integer, goodCall, groups, intFrom, intAt, spell, encode}
 use Rattle.prefix_int.proofs.Reading.{digit-add}
 use Rattle.int_writing.proofs.Writing.{length-short, length-long}
 
@@ -152,18 +153,17 @@ pub record Found (s : List ℕ) (at n : ℕ) (r : Integer) : Type 0 where
   pub shortest : (f : ℕ) → length (encode n f (r .value)) ≤ r .next - at
 
 pub found : (s : List ℕ) (at n : ℕ) (r : Integer) → intAt s at n ≡ done r → Found s at n r
-found s at n r h = go (ltb n 1) (ltb 8 n) refl refl h
+found s at n r h = go (goodCall n 0) refl h
   where
-    go : (b c : Bool) → ltb n 1 ≡ b → ltb 8 n ≡ c → cond b (refused BadCall) (cond c (refused BadCall) (intFrom n (drop at s) at)) ≡ done r
-        → Found s at n r
-    go true c p q h = let z : _≡_ {A = ℕ} 0 1 = cc in absurd (omega arith)
-    go false true p q h = let z : _≡_ {A = ℕ} 0 1 = cc in absurd (omega arith)
-    go false false p q h =
+    go : (b : Bool) → goodCall n 0 ≡ b → cond b (intFrom n (drop at s) at) (refused BadCall) ≡ done r → Found s at n r
+    go false p h = let z : _≡_ {A = ℕ} 0 1 = cc in absurd (omega arith)
+    go true p h =
+        let g = call-good n 0 p in
         let i = first n (drop at s) at r h in
-        let small : 2 ^ n ≤ 2 ^ 8 = pow-mono {j = 8} (ltb-false 8 n q) in
+        let small : 2 ^ n ≤ 2 ^ 8 = pow-mono {j = 8} (g .high) in
         record {
-          low = ltb-false n 1 p;
-          high = ltb-false 8 n q;
+          low = g .low;
+          high = g .high;
           flags = rw (getD-drop, add-zero) at (i .flags);
           past = i .past;
           within = omega (arith, length-drop at s);

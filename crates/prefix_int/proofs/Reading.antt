@@ -11,7 +11,8 @@ use lib.Pow.{pow-add, pow-mono}
 use borrow.Author.Tests.{lt-ltb, le-ltb}
 use Rattle.answers.specs.Answer.{done, refused}
 use Rattle.answers.specs.declared.Refusal.the-variants.{UnexpectedEnd, Overflow}
-use Rattle.prefix_int.specs.Integer.{groups, intFrom}
+use Rattle.int_writing.proofs.Writing.{width-call}
+use Rattle.prefix_int.specs.Integer.{groups, intFrom, intAt}
 
 -- ---- a run of groups
 
@@ -64,6 +65,9 @@ digit-le d w h = mul-le-mul-right w (omega arith)
 pub first-end : (n : ℕ) (s : List ℕ) (at : ℕ) → length s ≤ at → intFrom n (drop at s) at ≡ refused UnexpectedEnd
 unfolding intFrom
 first-end n s at h = rw (drop-of-length-le s h)
+
+pub int-end : (s : List ℕ) (at n : ℕ) → 1 ≤ n → n ≤ 8 → length s ≤ at → intAt s at n ≡ refused UnexpectedEnd
+int-end s at n low high h = rw (width-call n low high) (first-end n s at h)
 
 module _ (n : ℕ) (s : List ℕ) (at b p : ℕ) (l : at < length s) (eb : b ≡ getD s at 0) (ep : p ≡ 2 ^ n) where
   pub first-short : b % p < p - 1 → intFrom n (drop at s) at ≡ done (record { flags = b / p; value = b % p; next = at + 1 })

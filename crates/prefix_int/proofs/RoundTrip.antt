@@ -16,7 +16,7 @@ use Rattle.answers.specs.declared.Refusal.the-variants.{BadCall, CountTooLarge}
 use Rattle.prefix_int.specs.Integer.{Integer, groups, intFrom, intAt, spell, encode, goodCall, intBytes}
 use Rattle.prefix_int.proofs.Reading.{digit-add}
 use Rattle.int_writing.proofs.Writers.{leaves}
-use Rattle.int_writing.proofs.Writing.{Good, call-good, spell-last, spell-more, spell-fits, encode-short, encode-long}
+use Rattle.int_writing.proofs.Writing.{Good, call-good, width-call, spell-last, spell-more, spell-fits, encode-short, encode-long}
 
 -- an integer's answer, at a value and a position that are the same
 same-int : (f : ℕ) {v w d e : ℕ} → v ≡ w → d ≡ e
@@ -79,7 +79,7 @@ read-encode n f v at t h = go (ltb v (2 ^ n - 1)) refl
 -- an integer's octets, wherever they stand in a list
 pub read-there : (s : List ℕ) (at n f v : ℕ) (t : List ℕ) → Good 8 n f → v < 2 ^ 63 → drop at s ≡ encode n f v ++ t
     → intAt s at n ≡ done (record { flags = f; value = v; next = at + length (encode n f v) })
-read-there s at n f v t good small here = rw (le-ltb n 1 (good .low), le-ltb 8 n (good .high), here) (read-encode n f v at t small)
+read-there s at n f v t good small here = rw (width-call n (good .low) (good .high), here) (read-encode n f v at t small)
 
 -- what the octets of a call tell
 pub record Encoded (n f v : ℕ) (bytes : List ℕ) : Type 0 where
@@ -92,7 +92,7 @@ encoded n f v bytes h = go (goodCall n f) (ltb v (2 ^ 63)) refl refl h
   where
     go : (b c : Bool) → goodCall n f ≡ b → ltb v (2 ^ 63) ≡ c
         → cond b (cond c (done (encode n f v)) (refused CountTooLarge)) (refused BadCall) ≡ done bytes → Encoded n f v bytes
-    go true true p q h = record { good = call-good 8 n f p; value = ltb-true v (2 ^ 63) q; bytes-are = let z = h in cc }
+    go true true p q h = record { good = call-good n f p; value = ltb-true v (2 ^ 63) q; bytes-are = let z = h in cc }
     go true false p q h = let z : _≡_ {A = ℕ} 0 1 = cc in absurd (omega arith)
     go false c p q h = let z : _≡_ {A = ℕ} 0 1 = cc in absurd (omega arith)
 

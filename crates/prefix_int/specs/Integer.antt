@@ -39,7 +39,7 @@ intFrom n (b ∷ s) at =
 
 -- "width N is 1 to 8"; another is 22
 abbrev pub intAt : List ℕ → ℕ → ℕ → Answer Integer
-intAt s at n = cond (ltb n 1) (refused BadCall) (cond (ltb 8 n) (refused BadCall) (intFrom n (drop at s) at))
+intAt s at n = cond (goodCall n 0) (intFrom n (drop at s) at) (refused BadCall)
 
 abbrev pub intRead : IntRead → Answer Integer
 intRead (Int f v e) = done (record { flags = f; value = v; next = e })

@@ -51,10 +51,7 @@ fn rest(s: &[u8], from: usize, flags: u8, first: u64) -> IntRead
 pub fn read(s: &[u8], at: usize, width: u32) -> IntRead
     ensures { λ r. ⌜ intRead r ≡ intAt (now (s .entry)) at width ⌝ }
 {
-    if width < 1 {
-        return IntRead::Refused(Refusal::BadCall);
-    }
-    if 8 < width {
+    if !call_ok(width, 0) {
         return IntRead::Refused(Refusal::BadCall);
     }
     if s.len() <= at {

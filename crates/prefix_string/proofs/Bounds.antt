@@ -11,7 +11,9 @@ use Rattle.answers.specs.Answer.{Answer, done, refused, andThen}
 use Rattle.answers.specs.declared.Refusal.the-variants.{UnexpectedEnd, HuffmanString, BadCall}
 use Rattle.prefix_int.specs.Integer.{Integer, intAt}
 use Rattle.prefix_int.proofs.Bounds.{found}
-use Rattle.prefix_string.specs.Text.{Text, hBit, bytesAfter, textAt}
+use Rattle.int_writing.proofs.Writing.{Good}
+use Rattle.text_writing.proofs.Laws.{text-good}
+use Rattle.prefix_string.specs.Text.{Text, hBit, bytesAfter, textAt, goodText}
 
 -- a string that was read at a position
 pub record FoundText (s : List ℕ) (at n : ℕ) (r : Text) : Type 0 where
@@ -25,23 +27,23 @@ pub record FoundText (s : List ℕ) (at n : ℕ) (r : Text) : Type 0 where
 
 pub found-text : (s : List ℕ) (at n : ℕ) (r : Text) → textAt s at n ≡ done r → FoundText s at n r
 unfolding textAt
-found-text s at n r h = go (ltb n 1) (ltb 7 n) (leb (length s) at) (eqb (hBit n (getD s at 0)) 1) refl refl refl h
+found-text s at n r h = go (goodText n 0) (leb (length s) at) (eqb (hBit n (getD s at 0)) 1) refl refl h
   where
     -- the bytes after a length
-    after : (i : Integer) (b : Bool) → ltb (length s - i .next) (i .value) ≡ b → intAt s at n ≡ done i → 1 ≤ n → n ≤ 7
+    after : (i : Integer) (b : Bool) → ltb (length s - i .next) (i .value) ≡ b → intAt s at n ≡ done i → Good 7 n 0
         → eqb (hBit n (getD s at 0)) 1 ≡ false
         → cond b (refused UnexpectedEnd) (done (record { flags = i .flags / 2; start = i .next; len = i .value; next = i .next + i .value }))
         ≡ done r
         → FoundText s at n r
-    after i true q read low high clear p = let z : _≡_ {A = ℕ} 0 1 = cc in absurd (omega arith)
-    after i false q read low high clear p =
+    after i true q read g clear p = let z : _≡_ {A = ℕ} 0 1 = cc in absurd (omega arith)
+    after i false q read g clear p =
         let f = found s at n i read in
         let t : Text = record { flags = i .flags / 2; start = i .next; len = i .value; next = i .next + i .value } in
         let e : t ≡ r = cc in
         subst (FoundText s at n) e (
         record {
-          low = low;
-          high = high;
+          low = g .low;
+          high = g .high;
           clear = eqb-false _ _ clear;
           flags = ap (λ (x : ℕ). x / 2) (f .flags);
           past = f .past;
@@ -49,21 +51,18 @@ found-text s at n r h = go (ltb n 1) (ltb 7 n) (leb (length s) at) (eqb (hBit n 
           within = omega (arith, f .within, ltb-false (length s - i .next) (i .value) q);
         })
 
-    read : (a : Answer Integer) → intAt s at n ≡ a → 1 ≤ n → n ≤ 7 → eqb (hBit n (getD s at 0)) 1 ≡ false → andThen a (bytesAfter s) ≡ done r
+    read : (a : Answer Integer) → intAt s at n ≡ a → Good 7 n 0 → eqb (hBit n (getD s at 0)) 1 ≡ false → andThen a (bytesAfter s) ≡ done r
         → FoundText s at n r
-    read (done i) q low high clear p = after i (ltb (length s - i .next) (i .value)) refl q low high clear p
-    read (refused x) q low high clear p = let z : _≡_ {A = ℕ} 0 1 = cc in absurd (omega arith)
+    read (done i) q g clear p = after i (ltb (length s - i .next) (i .value)) refl q g clear p
+    read (refused x) q g clear p = let z : _≡_ {A = ℕ} 0 1 = cc in absurd (omega arith)
 
-    go : (a b c d : Bool) → ltb n 1 ≡ a → ltb 7 n ≡ b → eqb (hBit n (getD s at 0)) 1 ≡ d
+    go : (a c d : Bool) → goodText n 0 ≡ a → eqb (hBit n (getD s at 0)) 1 ≡ d
         → cond a
+        (cond c (refused UnexpectedEnd) (cond d (refused HuffmanString) (andThen (intAt s at n) (bytesAfter s))))
         (refused BadCall)
-        (cond b
-        (refused BadCall)
-        (cond c (refused UnexpectedEnd) (cond d (refused HuffmanString) (andThen (intAt s at n) (bytesAfter s)))))
         ≡ done r
         → FoundText s at n r
-    go true b c d p q t h = let z : _≡_ {A = ℕ} 0 1 = cc in absurd (omega arith)
-    go false true c d p q t h = let z : _≡_ {A = ℕ} 0 1 = cc in absurd (omega arith)
-    go false false true d p q t h = let z : _≡_ {A = ℕ} 0 1 = cc in absurd (omega arith)
-    go false false false true p q t h = let z : _≡_ {A = ℕ} 0 1 = cc in absurd (omega arith)
-    go false false false false p q t h = read (intAt s at n) refl (ltb-false n 1 p) (ltb-false 7 n q) t h
+    go false c d p t h = let z : _≡_ {A = ℕ} 0 1 = cc in absurd (omega arith)
+    go true true d p t h = let z : _≡_ {A = ℕ} 0 1 = cc in absurd (omega arith)
+    go true false true p t h = let z : _≡_ {A = ℕ} 0 1 = cc in absurd (omega arith)
+    go true false false p t h = read (intAt s at n) refl (text-good n 0 p) t h

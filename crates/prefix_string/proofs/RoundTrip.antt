@@ -12,9 +12,9 @@ use Rattle.prefix_int.specs.Integer.{Integer, intAt, encode}
 use Rattle.prefix_int.proofs.Bounds.{found}
 use Rattle.prefix_int.proofs.RoundTrip.{read-there}
 use Rattle.int_writing.proofs.Writers.{leaves}
-use Rattle.int_writing.proofs.Writing.{Good, call-good}
+use Rattle.int_writing.proofs.Writing.{Good}
 use Rattle.prefix_string.specs.Text.{hBit, bytesAfter, textAt, plain, textBytes}
-use Rattle.text_writing.proofs.Laws.{length-call, text-bytes}
+use Rattle.text_writing.proofs.Laws.{length-call, text-bytes, text-good, text-width}
 use Rattle.prefix_string.proofs.Reading.{text-plain}
 
 -- a string that stands at a position: what its read answers, and its bytes where that says
@@ -47,7 +47,7 @@ module _ (s : List ℕ) (at n f : ℕ) (t rest : List ℕ) (good : Good 7 n f) (
       let fits = le-ltb (length s - (at + m)) (length t) (omega arith) in
       record {
         read =
-            text-plain s at n (good .low) (good .high) (omega arith) clear
+            text-plain s at n (text-width n (good .low) (good .high)) (omega arith) clear
             ∙ ap (λ (x : Answer Integer). andThen x (bytesAfter s)) int
             ∙ rw (fits, double, e);
         bytes =
@@ -61,4 +61,4 @@ pub round-trip : (l : List ℕ) (at n f : ℕ) (t : List ℕ) (e : ℕ) → leng
 round-trip l at n f t e small h =
     let w = leaves (textBytes n f t) l at e h in
     let b = text-bytes n f t (w .bytes) (w .given) in
-    rw (rw (b .1) at (w .next)) at (stands (left (textBytes n f t) l at) at n f t (drop e l) (call-good 7 n f (b .0)) small (rw (b .1) at (w .here)))
+    rw (rw (b .1) at (w .next)) at (stands (left (textBytes n f t) l at) at n f t (drop e l) (text-good n f (b .0)) small (rw (b .1) at (w .here)))

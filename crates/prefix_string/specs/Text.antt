@@ -32,13 +32,11 @@ bytesAfter s i =
 -- with H above it, a length's prefix has 1 to 7 bits
 unfoldable pub textAt : List ℕ → ℕ → ℕ → Answer Text
 textAt s at n =
-    cond (ltb n 1)
-    (refused BadCall)
-    (cond (ltb 7 n)
-    (refused BadCall)
+    cond (goodText n 0)
     (cond (leb (length s) at)
     (refused UnexpectedEnd)
-    (cond (eqb (hBit n (getD s at 0)) 1) (refused HuffmanString) (andThen (intAt s at n) (bytesAfter s)))))
+    (cond (eqb (hBit n (getD s at 0)) 1) (refused HuffmanString) (andThen (intAt s at n) (bytesAfter s))))
+    (refused BadCall)
 
 abbrev pub textRead : TextRead → Answer Text
 textRead (TextRead.Text f s n e) = done (record { flags = f; start = s; len = n; next = e })

@@ -1,5 +1,4 @@
 // An answer: its number, its words and its values, and how it is written.
-use crate::text;
 use answers::Find;
 use answers::Insert;
 use answers::Insertion;

@@ -18,7 +18,7 @@ use Rattle.answers.specs.declared.Written.the-variants.{Refused}
 use Rattle.answers.proofs.Write.{writes-refused, writes-full, writes-next, sets-append}
 use Rattle.prefix_int.specs.Integer.{goodCall, intBytes, sizeOf}
 use Rattle.int_writing.proofs.Writers.{sized, unsized, writes-stored}
-use Rattle.int_writing.proofs.Writing.{Good, call-good, good-call, bytes-good, bytes-large, length-flags}
+use Rattle.int_writing.proofs.Writing.{Good, call-good, width-call, bytes-good, bytes-large, length-flags}
 use Rattle.text_writing.specs.Plain.{plain, textBytes}
 use Rattle.shape_writing.specs.Joined.{valueWidth, joined}
 
@@ -27,10 +27,10 @@ pub size-flags : (n f v : ℕ) → goodCall n f ≡ true → sizeOf n v ≡ andT
 size-flags n f v good = go (ltb v (2 ^ 63)) refl
   where
     g : Good 8 n f
-    g = call-good 8 n f good
+    g = call-good n f good
 
     zero : goodCall n 0 ≡ true
-    zero = good-call 8 n 0 (record { low = g .low; high = g .high; flags = pow-pos (8 - n) })
+    zero = width-call n (g .low) (g .high)
 
     count : Answer (List ℕ) → Answer ℕ
     count w = andThen w (λ bytes. done (length bytes))

@@ -10,9 +10,8 @@ use Rattle.answers.specs.Write.{fitted, left}
 use Rattle.prefix_int.specs.Integer.{intAt, encode, intBytes}
 use Rattle.prefix_int.proofs.RoundTrip.{encoded, read-there}
 use Rattle.int_writing.proofs.Writers.{leaves}
-use Rattle.int_writing.proofs.Writing.{call-good}
+use Rattle.text_writing.proofs.Laws.{text-bytes, text-good}
 use Rattle.prefix_string.specs.Text.{plain, textBytes}
-use Rattle.text_writing.proofs.Laws.{text-bytes}
 use Rattle.prefix_string.proofs.RoundTrip.{Stands, stands, head}
 use Rattle.shapes.specs.Shapes.{valueWidth, textAfter, textsAt, joined, intTextBytes, textsBytes}
 use Rattle.shape_writing.proofs.Laws.{valueBytes}
@@ -41,7 +40,7 @@ parts (done x) t l at e small h =
       bytes = x;
       given = refl;
       here = here;
-      value = rw next at (stands s (at + length x) valueWidth 0 t (drop e l) (call-good valueWidth valueWidth 0 refl) small after);
+      value = rw next at (stands s (at + length x) valueWidth 0 t (drop e l) (text-good valueWidth 0 refl) small after);
     }
 
 -- an integer and a value that stand at a position
@@ -75,7 +74,7 @@ unfolding textsBytes textsAt
 texts-round-trip l at n f m t e small-name small h =
     let p = parts (textBytes n f m) t l at e small h in
     let b = text-bytes n f m (p .bytes) (p .given) in
-    let k = stands _ at n f m _ (call-good 7 n f (b .0)) small-name (rw (b .1) at (p .here)) in
+    let k = stands _ at n f m _ (text-good n f (b .0)) small-name (rw (b .1) at (p .here)) in
     let v = rw (b .1) at (p .value) in
     record {
       name = at + length (head n f m);

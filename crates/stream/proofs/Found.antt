@@ -6,7 +6,6 @@ use mathlib.Core.Option.{some, none}
 use Prim.Native.Nat.{ℕ, zero, suc, _+_, _≤_, _<_}
 use native.Mathlib.Omega.{arith}
 use lib.ListN.{length, getD}
-use borrow.Author.Tests.{le-ltb}
 use Rattle.answers.specs.Answer.{Answer, done, refused, endsEarly, cutShort}
 use Rattle.answers.specs.declared.Refusal.the-variants.{Overflow, InvalidPrefix}
 use Rattle.answers.proofs.Then.{then-done}
@@ -17,7 +16,7 @@ use Rattle.forms.specs.declared.Kind.the-variants.{Encoder}
 use Rattle.forms.proofs.Every.{width-low, width-high}
 use Rattle.prefix_int.specs.Integer.{Integer, intAt}
 use Rattle.prefix_int.proofs.Bounds.{found}
-use Rattle.prefix_int.proofs.Reading.{first-end}
+use Rattle.prefix_int.proofs.Reading.{int-end}
 use Rattle.shapes.specs.Shapes.{textAfter, textsAt}
 use Rattle.shapes.proofs.Bounds.{found-int-text, found-texts}
 use Rattle.stream.specs.Instructions.{kindInt, pastLimit, OneInteger, withinLimit, integerAt, NameRef, nameRef, nameRefAt, Literal, literal, literalAt}
@@ -70,7 +69,7 @@ unfolding integerAt kindInt
 integer-over s at k h =
     let low : 1 ≤ formOf k .width = width-low k in
     let high : formOf k .width ≤ 8 = omega (arith, width-high k) in
-    rw (le-ltb (formOf k .width) 1 low, le-ltb 8 (formOf k .width) high, first-end (formOf k .width) s at h)
+    rw (int-end s at (formOf k .width) low high h)
 
 -- an insert with a name reference
 pub record FoundNameRef (s : List ℕ) (at : ℕ) (r : NameRef) : Type 0 where

@@ -2,22 +2,33 @@
 use mathlib.Core.Path.{_≡_, refl, sym, ap, _∙_}
 use mathlib.Core.Bool.{Bool, true, false, cond}
 use mathlib.Core.List.{List}
-use Prim.Native.Nat.{ℕ, suc, _+_, _-_, _*_, _/_, _^_, _<_}
-use native.Mathlib.Nat.{pow-suc, div-eq-of-lt, div-add-mod', mod-lt}
+use Prim.Native.Nat.{ℕ, suc, _+_, _-_, _*_, _^_, _≤_, _<_}
+use native.Mathlib.Nat.{pow-suc}
 use native.Mathlib.Omega.{arith}
-use lib.Dec.{ltb, eqb}
 use lib.ListN.{length, length-append}
-use lib.Pow.{pow-pos}
-use borrow.Author.Tests.{ltb-true, ltb-false, eq-eqb, ne-eqb}
 use Rattle.answers.specs.Answer.{done, refused, andThen}
 use Rattle.answers.specs.declared.Refusal.the-variants.{BadCall}
-use Rattle.prefix_int.specs.Integer.{encode, intBytes, sizeOf}
+use Rattle.prefix_int.specs.Integer.{encode, goodCall, intBytes, sizeOf}
 use Rattle.prefix_int.proofs.RoundTrip.{encoded}
 use Rattle.int_writing.proofs.Writers.{sized}
-use Rattle.int_writing.proofs.Writing.{Good, call-good, good-call, bytes-good, length-flags}
+use Rattle.int_writing.proofs.Writing.{Good, call-good, width-call, bytes-good, length-flags}
 use Rattle.text_writing.specs.Plain.{goodText, plain, textBytes, textSize}
 
 -- ---- a call
+
+-- a length of 7 bits at the most, and flags that fit above it and H
+pub text-good : (n f : ℕ) → goodText n f ≡ true → Good 7 n f
+text-good n f h = go (goodCall n 0) refl h
+  where
+    go : (b : Bool) → goodCall n 0 ≡ b → cond b (goodCall (n + 1) f) false ≡ true → Good 7 n f
+    go false p h = let z : _≡_ {A = ℕ} 0 1 = cc in absurd (omega arith)
+    go true p h =
+        let g = call-good (n + 1) f h in
+        let bits : 8 - (n + 1) ≡ 7 - n = omega arith in
+        record { low = call-good n 0 p .low; high = omega (arith, g .high); flags = rw bits at (g .flags) }
+
+pub text-width : (n : ℕ) → 1 ≤ n → n ≤ 7 → goodText n 0 ≡ true
+text-width n low high = rw (width-call n low (omega arith), width-call (n + 1) (omega arith) (omega arith))
 
 -- the flags and H make the flags of the length
 pub length-call : (n f : ℕ) → Good 7 n f → Good 8 n (f * 2)
@@ -25,14 +36,6 @@ length-call n f g =
     let bits : 8 - n ≡ suc (7 - n) = omega (arith, g .low, g .high) in
     let double : 2 ^ suc (7 - n) ≡ 2 ^ (7 - n) * 2 = pow-suc 2 (7 - n) in
     record { low = g .low; high = omega (arith, g .high); flags = rw bits (omega (arith, g .flags)) }
-
--- no flag stands above the 7 - n bits
-pub flags-fit : (k f : ℕ) → eqb (f / 2 ^ k) 0 ≡ ltb f (2 ^ k)
-flags-fit k f = go (ltb f (2 ^ k)) refl
-  where
-    go : (t : Bool) → ltb f (2 ^ k) ≡ t → eqb (f / 2 ^ k) 0 ≡ t
-    go true e = eq-eqb _ _ (div-eq-of-lt (ltb-true f (2 ^ k) e))
-    go false e = ne-eqb (f / 2 ^ k) 0 (λ z. omega (arith, ltb-false f (2 ^ k) e, mod-lt f (pow-pos k), rw z at (div-add-mod' f (2 ^ k))))
 
 -- ---- how many bytes
 
@@ -70,8 +73,8 @@ module _ (n f : ℕ) (t : List ℕ) (small : length t < 2 ^ 63) where
           → cond b (andThen (sizeOf n (length t)) (λ head. done (head + length t))) (refused BadCall)
           ≡ andThen (cond b (done (plain n f t)) (refused BadCall)) (λ bytes. done (length bytes))
       go true p =
-          let g = length-call n f (call-good 7 n f p) in
-          let c = bytes-good n 0 (length t) (good-call 8 n 0 (record { low = g .low; high = g .high; flags = pow-pos (8 - n) })) small in
+          let g = length-call n f (text-good n f p) in
+          let c = bytes-good n 0 (length t) (width-call n (g .low) (g .high)) small in
           rw c (ap done (sym (length-plain n f t)))
       go false p = refl
 

@@ -11,17 +11,14 @@ use answers::Refusal;
 use answers::Written;
 use prefix_int::IntSize;
 
-// Whether a width is within 1..=7 and flags fit above H.
+// Whether a width is good for a length, and flags fit above the length and H.
 pub fn call_ok(width: u32, flags: u8) -> bool
     ensures { λ r. ⌜ r ≡ goodText width flags ⌝ }
 {
-    if width < 1 {
+    if !prefix_int::call_ok(width, 0) {
         return false;
     }
-    if 7 < width {
-        return false;
-    }
-    flags >> (7 - width) == 0
+    prefix_int::call_ok(width + 1, flags)
 }
 
 // How many bytes a string of len bytes takes, before any is written.

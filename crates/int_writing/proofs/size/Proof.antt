@@ -27,7 +27,7 @@ returns-2 c =
     rw (bytes-large (a .width) 0 (a .value) (good (c .before)) (c .if2 .taken))
 
 bytes-of-requires : tie.Need-bytes-of-requires
-bytes-of-requires c κs = (call-good 8 _ _ (good (c .before)) .high, omega arith)
+bytes-of-requires c κs = (call-good _ _ (good (c .before)) .high, omega arith)
 
 returns-3 : tie.Need-returns-3
 returns-3 c =

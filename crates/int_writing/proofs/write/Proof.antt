@@ -43,7 +43,7 @@ returns-2 c =
     writes-refused _ _ _ CountTooLarge (bytes-large (a .width) (a .flags) (a .value) (good (c .before)) (c .if2 .taken))
 
 bytes-of-requires : tie.Need-bytes-of-requires
-bytes-of-requires c κs = (call-good 8 _ _ (good (c .before)) .high, omega arith)
+bytes-of-requires c κs = (call-good _ _ (good (c .before)) .high, omega arith)
 
 returns-3 : tie.Need-returns-3
 returns-3 c = writes-full _ _ _ _ (bytes (c .before)) (omega (arith, many (c .before)))
@@ -57,7 +57,7 @@ returns-4 c = writes-full _ _ _ _ (bytes (c .before .before)) (omega (arith, man
 store-requires : tie.Need-store-requires
 store-requires c κs =
     let b = c .before .before .before in
-    let g = call-good 8 _ _ (good (b .before .before)) in
+    let g = call-good _ _ (good (b .before .before)) in
     (g .high, g .flags, omega arith, omega (arith, many b))
 
 add-t11 : tie.Need-add-t11

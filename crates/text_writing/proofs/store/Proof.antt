@@ -13,8 +13,8 @@ use Rattle.answers.proofs.Write.{sets-append}
 use Rattle.byte_writing.proofs.Stretch.{text-sets}
 use Rattle.prefix_int.specs.Integer.{encode}
 use Rattle.int_writing.proofs.Writers.{writes-stored}
-use Rattle.int_writing.proofs.Writing.{bytes-good, call-good, good-call}
-use Rattle.text_writing.proofs.Laws.{length-call}
+use Rattle.int_writing.proofs.Writing.{bytes-good, good-call}
+use Rattle.text_writing.proofs.Laws.{length-call, text-good}
 use Rattle.text_writing.proofs.store.Statement.{statement}
 use Rattle.text_writing.proofs.store.Tie as tie
 
@@ -35,14 +35,14 @@ module _ (c : tie.After-write) where
   stored =
       let s = c .before .before .before .before in
       let a = s .args in
-      let g = length-call (a .width) (a .flags) (call-good 7 (a .width) (a .flags) (s .pre .0)) in
-      let given = bytes-good (a .width) (a .flags * 2) (length (now (a .text))) (good-call 8 _ _ g) (omega (arith, s .good)) in
+      let g = length-call (a .width) (a .flags) (text-good (a .width) (a .flags) (s .pre .0)) in
+      let given = bytes-good (a .width) (a .flags * 2) (length (now (a .text))) (good-call _ _ g) (omega (arith, s .good)) in
       writes-stored _ _ _ (a .at) _ _ given (omega (arith, room)) (c .write .ensures)
 
 mul-write : tie.Need-mul-write
 mul-write c =
     let s = c .before .before .before in
-    let g = call-good 7 (s .args .width) (s .args .flags) (s .pre .0) in
+    let g = text-good (s .args .width) (s .args .flags) (s .pre .0) in
     omega (arith, g .flags, pow-mono {i = 7 - s .args .width} {j = 7} (omega arith))
 
 write-requires : tie.Need-write-requires
