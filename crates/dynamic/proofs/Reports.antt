@@ -3,8 +3,9 @@ use mathlib.Core.Path.{_≡_, refl, sym, ap, _∙_}
 use mathlib.Core.Bool.{Bool, true, false, cond}
 use mathlib.Core.List.{List}
 use mathlib.Core.Option.{some, none}
-use Prim.Native.Nat.{ℕ, _+_, _≤_, _<_}
-use lib.Dec.{ltb}
+use Prim.Native.Nat.{ℕ, _+_, _-_, _≤_, _<_}
+use native.Mathlib.Omega.{arith}
+use lib.Dec.{ltb, leb}
 use lib.ListN.{length, take}
 use borrow.Author.Tests.{ltb-false, lt-ltb, le-ltb}
 use Rattle.answers.specs.Table.{replied}
@@ -14,7 +15,8 @@ use Rattle.answers.specs.declared.Reply.{Reply}
 use Rattle.model.specs.Bounds.{queuePlaces, blockedValues}
 use Rattle.model.specs.Report as report
 use Rattle.ring.specs.Ring.{largestCount}
-use Rattle.tracking.specs.Queue.{sectionsOf, allSectionsLive, releasing}
+use Rattle.tracking.specs.Queue.{sectionsOf, allSectionsLive, noSection, oldestOf, closedUp, releasing}
+use Rattle.tracking.specs.declared.Queue.{Queue}
 use Rattle.tracking.specs.declared.Queued.{Queued}
 use Rattle.tracking.proofs.Sections.{released-is, released-queued, released-live}
 use Rattle.blocked.proofs.Blocked.{let-go-is, let-go-keeps}
@@ -77,6 +79,23 @@ release-keeps t stream r whole e =
         → report.withoutOldest stream (view t a .queue)
         ≡ cond (releasing (t .queue) stream .made) (some (sectionsOf (releasing (t .queue) stream .queue))) none
     in-model k a = released-is (t .queue) (facts t k .queued) whole stream
+
+-- a stream that has no section in the queue leaves the queue as it is
+pub unreleased : (q : Queue) (stream : ℕ) → releasing q stream .made ≡ false → releasing q stream .queue ≡ q
+unfolding releasing
+unreleased q stream h = go (leb (q .queued) queuePlaces) (ltb (oldestOf stream (take (q .queued) (q .places))) (q .queued)) h
+  where
+    gone : Queue
+    gone = record { queued = q .queued - 1; places = closedUp noSection (q .places) (q .queued) (oldestOf stream (take (q .queued) (q .places))) }
+
+    found : Bool → Queued
+    found b = cond b (record { made = true; queue = gone }) (record { made = false; queue = q })
+
+    go : (few b : Bool) → cond few (found b) (record { made = false; queue = q }) .made ≡ false
+        → cond few (found b) (record { made = false; queue = q }) .queue ≡ q
+    go true true h = let z : _≡_ {A = ℕ} 0 1 = cc in absurd (omega arith)
+    go true false h = refl
+    go false b h = refl
 
 -- ---- an increment
 

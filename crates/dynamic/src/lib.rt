@@ -1,6 +1,6 @@
 // The dynamic table, RFC 9204 3.2: its record, the calls on it, the open section and the peer's reports.
 ghost use mathlib.Core.Path.{_≡_};
-ghost use mathlib.Core.Bool.{true, _&&_};
+ghost use mathlib.Core.Bool.{true, false, _&&_};
 ghost use Prim.Native.Nat.{_+_, _-_, _≤_, _<_, _^_};
 ghost use lib.Dec.{leb};
 ghost use Rattle.arena.specs.Ring.{ring as ringBytes, longEnough};
@@ -75,6 +75,12 @@ pub struct Looked {
 pub struct Inserting {
     pub table: Table,
     pub inserted: Insert,
+}
+
+// A queue after a report, and the report's answer.
+struct Report {
+    queue: Queue,
+    reply: Reply,
 }
 
 // What a check of a record finds: whether it keeps its rules, and the lowest entry that a section uses.
@@ -196,6 +202,22 @@ fn note_origin(section: Section, absolute: usize, origin: Origin) -> Noted
     }
 }
 
+// The queue after the release of the stream's oldest section in it, and the answer: first what the call is admitted with.
+fn release(first: Reply, queue: Queue, stream: u64) -> Report
+    ensures { λ r. ⌜ ((t : Table) → t .queue ≡ queue → first ≡ calls.admitted (sound t) (t .active) false → calls.answer (calls.withQueue (r .queue) t) (r .reply) ≡ calls.release t stream) ⌝ }
+{
+    let mut next = queue;
+    let mut reply = first;
+    if let Reply::Done = reply {
+        let q = tracking::release(queue, stream);
+        next = q.queue;
+        if !q.made {
+            reply = Reply::Refused(Refusal::UnknownStreamId);
+        }
+    }
+    Report { queue: next, reply }
+}
+
 impl Table {
     // A table with nothing in it, and no room.
     pub fn fresh() -> Table
@@ -292,7 +314,10 @@ impl Table {
     {
         let c = self.checked();
         let mut reply = admitted(c.sound, self.active, false);
-        let mut next = self;
+        let mut ring = self.ring;
+        let waiting = self.waiting;
+        let queue = self.queue;
+        let section = self.section;
         if let Reply::Done = reply {
             let test = capacity_test(capacity);
             match test {
@@ -302,15 +327,26 @@ impl Table {
                 CapacityTest::Within => {
                     let cut = self.ring.cut(c.low, capacity);
                     if cut.made {
-                        let ring = cut.ring;
-                        next.ring = ring;
+                        ring = cut.ring;
                     } else {
                         reply = Reply::Refused(Refusal::ShrinkBlocked);
                     }
                 }
             }
         }
-        Replied { table: next, reply }
+        Replied {
+            table: Table {
+                ring,
+                known: self.known,
+                most: self.most,
+                waiting,
+                queue,
+                active: self.active,
+                base: self.base,
+                section,
+            },
+            reply,
+        }
     }
 
     // Sets the blocked maximum.
@@ -336,16 +372,29 @@ impl Table {
     {
         let c = self.checked();
         let mut reply = admitted(usable(c.sound, arena.len()), self.active, false);
-        let mut next = self;
+        let mut ring = self.ring;
+        let waiting = self.waiting;
+        let queue = self.queue;
+        let section = self.section;
         if let Reply::Done = reply {
-            let ring = self.ring;
-            let p = ring.push(arena, c.low, Source::Given, name, value);
-            let pushed = p.ring;
+            let p = self.ring.push(arena, c.low, Source::Given, name, value);
             let push = p.push;
-            next.ring = pushed;
-            reply = push_reply(ring.capacity, push);
+            ring = p.ring;
+            reply = push_reply(self.ring.capacity, push);
         }
-        Replied { table: next, reply }
+        Replied {
+            table: Table {
+                ring,
+                known: self.known,
+                most: self.most,
+                waiting,
+                queue,
+                active: self.active,
+                base: self.base,
+                section,
+            },
+            reply,
+        }
     }
 
     // Opens a section of a stream.
@@ -532,32 +581,42 @@ impl Table {
     pub fn acknowledge(self, stream: u64) -> Replied
         ensures { λ r. ⌜ Keeps self (calls.release self stream) r (λ t. model-report.release t stream) ⌝ }
     {
-        self.release(stream)
+        let c = self.checked();
+        let first = admitted(c.sound, self.active, false);
+        self.after(release(first, self.queue, stream))
     }
 
     // The peer cancelled a stream.
     pub fn cancel(self, stream: u64) -> Replied
         ensures { λ r. ⌜ Keeps self (calls.release self stream) r (λ t. model-report.release t stream) ⌝ }
     {
-        self.release(stream)
+        let c = self.checked();
+        let first = admitted(c.sound, self.active, false);
+        self.after(release(first, self.queue, stream))
     }
 
-    // The release of the stream's oldest queued section.
-    fn release(mut self, stream: u64) -> Replied
-        ensures { λ r. ⌜ Keeps self (calls.release self stream) r (λ t. model-report.release t stream) ⌝ }
+    // The record after a report on its queue.
+    fn after(self, r: Report) -> Replied
+        ensures { λ x. ⌜ x ≡ calls.answer (calls.withQueue (r .queue) self) (r .reply) ⌝ }
     {
-        let c = self.checked();
-        let mut reply = admitted(c.sound, self.active, false);
-        if let Reply::Done = reply {
-            let q = tracking::release(self.queue, stream);
-            if q.made {
-                let queue = q.queue;
-                self.queue = queue;
-            } else {
-                reply = Reply::Refused(Refusal::UnknownStreamId);
-            }
+        let ring = self.ring;
+        let waiting = self.waiting;
+        let queue = r.queue;
+        let section = self.section;
+        let reply = r.reply;
+        Replied {
+            table: Table {
+                ring,
+                known: self.known,
+                most: self.most,
+                waiting,
+                queue,
+                active: self.active,
+                base: self.base,
+                section,
+            },
+            reply,
         }
-        Replied { table: self, reply }
     }
 
     // The peer received more inserts.

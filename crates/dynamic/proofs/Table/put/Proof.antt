@@ -28,13 +28,17 @@ tells c =
     let z = begun (c .before) .args in
     told-usable (z .self) (c .before .checked .result) (c .before .checked .ensures) (now (z .arena)) _ (c .usable .ensures)
 
+-- the parts were taken out of the record
+abbrev began : tie.After-section → tie.After-admitted
+began c = c .before .before .before .before
+
 abbrev first : tie.After-enum-told → tie.Start
-first c = begun (c .before .before .before .before)
+first c = begun (began (c .before .before) .before .before)
 
 -- no section is open, and the record may be used
 passed : (c : tie.After-enum-told) → let z = first c .args in (usable (z .self) (now (z .arena)) ≡ true) × (z .self .active ≡ false)
 passed c =
-    let a = c .before .before in
+    let a = began (c .before .before) in
     let p = closed-admitted _ (c .enum-told .given .1) _ _ (a .admitted .ensures) in
     (sym (tells (a .before)) ∙ p .0, p .1)
 
@@ -62,8 +66,8 @@ same-length c = search needs
 returns : tie.Need-returns
 returns c =
     let pushed = c .before .before .before .before in
-    let e = pushed .before .before .before in
-    let check = e .before .before .before .before in
+    let e = pushed .before .before in
+    let check = began (e .before .before) .before .before in
     let z = first e .args in
     let p = pushed .push .result in
     let low : check .checked .result .low ≡ lowestUsed (z .self) =
@@ -78,7 +82,7 @@ enum-told-2 c = search needs
 
 returns-2 : tie.Need-returns-2
 returns-2 c =
-    let a = c .before .before in
+    let a = began (c .before .before) in
     puts-refused _ _ _ _ _ _ _ (tells (a .before)) (c .enum-told2 .given .1) (a .admitted .ensures)
 
 pub put-spec : {M : Type 1} → statement M

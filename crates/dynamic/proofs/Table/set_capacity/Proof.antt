@@ -20,9 +20,13 @@ arrays z = record { starts = search needs; names = search needs; values = search
 tells : (c : tie.After-checked) → c .checked .result .sound ≡ sound (c .before .args .self)
 tells c = told-sound (c .before .args .self) (c .checked .result) (c .checked .ensures)
 
+-- the parts were taken out of the record
+abbrev began : tie.After-section → tie.After-admitted
+began c = c .before .before .before .before
+
 -- the call was admitted
-passed : (c : tie.After-enum-told) → let t = c .before .before .before .before .args .self in (sound t ≡ true) × (t .active ≡ false)
-passed c = let a = c .before .before in closed-passed _ _ _ (tells (a .before)) (a .admitted .ensures) (c .enum-told .given .1)
+passed : (c : tie.After-enum-told) → let t = began (c .before .before) .before .before .args .self in (sound t ≡ true) × (t .active ≡ false)
+passed c = let a = began (c .before .before) in closed-passed _ _ _ (tells (a .before)) (a .admitted .ensures) (c .enum-told .given .1)
 
 checked-requires : tie.Need-checked-requires
 checked-requires c κs = search needs
@@ -41,7 +45,7 @@ enum-known-test c = search needs
 
 -- the test of the capacity, and the call up to it
 abbrev first : tie.After-capacity-test → tie.Start
-first c = c .before .before .before .before .before
+first c = began (c .before .before .before) .before .before
 
 returns : tie.Need-returns
 returns c =
@@ -64,7 +68,7 @@ cuts : (c : tie.After-cut)
 cuts c =
     let test = c .before .before .before in
     let z = first test .args in
-    let check = test .before .before .before .before in
+    let check = began (test .before .before .before) .before in
     c .cut .ensures
     ∙ ap (λ (low : ℕ). cutting (z .self .ring) low (z .capacity))
     (told-low (z .self) (check .checked .result) (check .checked .ensures) (passed (test .before) .0))
@@ -93,7 +97,7 @@ enum-told-3 c = search needs
 returns-4 : tie.Need-returns-4
 unfolding setCapacity
 returns-4 c =
-    let a = c .before .before in
+    let a = began (c .before .before) in
     sets-capacity _ (arrays (a .before .before)) _
     (closed-refused _ _ _ (tells (a .before)) _ _ (c .enum-told3 .given .1) (a .admitted .ensures))
 
