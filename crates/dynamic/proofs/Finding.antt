@@ -45,20 +45,22 @@ module _ (t : Table) (a n v : List ℕ) where
       go true false h o e = ap refusedBy e ∙ rw (← h, o)
       go false on h o e = ap refusedBy e ∙ rw (← h)
 
-  module _ (rules : sound t ≡ true) (long : longEnough a ≡ true) where
-    module _ (active : t .active ≡ true) where
-      pub find-nothing : latestOf t a n v true ≡ none → looked t (Found NotFound) ≡ find t a n v
-      unfolding find
-      find-nothing h = rw (rules, long, active, h)
+  pub find-open : sound t ≡ true → longEnough a ≡ true → t .active ≡ true → foundAt t (latestOf t a n v true) ≡ find t a n v
+  unfolding find
+  find-open rules long active = rw (rules, long, active)
 
-      module _ (k : ℕ) (h : latestOf t a n v true ≡ some k) (r : Noted) (e : r ≡ notedIn (t .section) (entryAt t k)) where
-        pub find-full : r .fits ≡ false → looked t (Find.Refused TrackingFull) ≡ find t a n v
-        unfolding find
-        find-full f = rw (rules, long, active, h, ← e, f)
+  -- a search of a section, by what it found
+  module _ (whole : Bool) where
+    pub found-nothing : latestOf t a n v whole ≡ none → looked t (Found NotFound) ≡ foundAt t (latestOf t a n v whole)
+    found-nothing h = rw h
 
-        pub find-at : r .fits ≡ true → looked (withNoted r t) (Found (model.lookupOf (t .base) (entryAt t k))) ≡ find t a n v
-        unfolding find
-        find-at f = rw (rules, long, active, h, ← e, f)
+    module _ (k : ℕ) (h : latestOf t a n v whole ≡ some k) (r : Noted) (e : r ≡ notedIn (t .section) (entryAt t k)) where
+      pub found-full : r .fits ≡ false → looked t (Find.Refused TrackingFull) ≡ foundAt t (latestOf t a n v whole)
+      found-full f = rw (h, ← e, f)
+
+      pub found-noted : r .fits ≡ true
+          → looked (withNoted r t) (Found (model.lookupOf (t .base) (entryAt t k))) ≡ foundAt t (latestOf t a n v whole)
+      found-noted f = rw (h, ← e, f)
 
 -- ---- in the model
 

@@ -1,15 +1,14 @@
 -- An insert to the last field is an insert in the model, and keeps the rules; and its answer by the tests. Assumes nothing.
-use mathlib.Core.Path.{_≡_, refl, sym, ap, _∙_}
+use mathlib.Core.Path.{_≡_, refl, ap, _∙_}
 use mathlib.Core.Bool.{Bool, true, false, cond}
 use mathlib.Core.List.{List}
 use mathlib.Core.Option.{Option, some, none}
-use Prim.Native.Nat.{ℕ, _≤_, _<_}
+use Prim.Native.Nat.{ℕ}
 use lib.Dec.{leb}
 use lib.ListN.{length}
-use borrow.Author.Tests.{le-leb, lt-leb}
 use Rattle.answers.specs.declared.Insert.{Insert}
-use Rattle.answers.specs.declared.Refusal.{Refusal}
-use Rattle.answers.specs.declared.Refusal.the-variants.{NoSection, BadCall}
+use Rattle.answers.specs.declared.Refusal.the-variants.{NoSection}
+use Rattle.answers.specs.declared.Reply.{Reply}
 use Rattle.arena.specs.Ring.{longEnough}
 use Rattle.entries.specs.declared.Room.{Room}
 use Rattle.entries.proofs.Chain.{and-left, and-right}
@@ -22,47 +21,39 @@ use Rattle.ring.specs.Ring.{roomFor, making}
 use Rattle.ring.proofs.Making.{roomAfter, roomFor-some, roomFor-none}
 use Rattle.blocked.specs.Waiting.{waitingOf}
 use Rattle.blocked.proofs.Blocked.{waiting-count}
-use Rattle.dynamic.specs.Calls.{inserting, notInserted, made, madeOr, insertOpen, insert, bytesAfter}
+use Rattle.dynamic.specs.Calls.{admitted, inserting, notInserted, made, madeOr, insertOpen, insertFirst, insert, bytesAfter}
 use Rattle.dynamic.specs.Promise.{Inserts}
 use Rattle.dynamic.specs.Record.{view, sound, usable, lowestUsed}
 use Rattle.dynamic.specs.declared.Inserting.{Inserting}
 use Rattle.dynamic.specs.declared.Table.{Table}
 use Rattle.dynamic.proofs.Finding.{openHere}
 use Rattle.dynamic.proofs.Free.{same-making}
-use Rattle.dynamic.proofs.Made.{Shape, new, same-bytes, Answers, unmade-answers, refused-answers, made-answers}
+use Rattle.dynamic.proofs.Made.{Shape, new, Answers, unmade-answers, refused-answers, made-answers}
 use Rattle.dynamic.proofs.Sound.{Sound, facts}
 use Rattle.dynamic.proofs.Unmade.{unmade}
 
 -- ---- the answer by the tests
 
 module _ (t : Table) (a n v : List ℕ) where
-  pub insert-unsound : sound t ≡ false → inserting t (Insert.Refused BadCall) ≡ insert t a n v
+  pub insert-first : (u : Bool) (r : Reply) → u ≡ usable t a → r ≡ admitted u (t .active) true → insertFirst r t a n v ≡ insert t a n v
   unfolding insert
-  insert-unsound h = rw h
+  insert-first u r h e = go u (t .active) h refl e
+    where
+      go : (u on : Bool) → u ≡ usable t a → t .active ≡ on → r ≡ admitted u on true → insertFirst r t a n v ≡ insert t a n v
+      go true true h o e = ap (λ (x : Reply). insertFirst x t a n v) e ∙ rw (← h, o)
+      go true false h o e = ap (λ (x : Reply). insertFirst x t a n v) e ∙ rw (← h, o)
+      go false on h o e = ap (λ (x : Reply). insertFirst x t a n v) e ∙ rw (← h)
 
-  module _ (rules : sound t ≡ true) where
-    pub insert-short : longEnough a ≡ false → inserting t (Insert.Refused BadCall) ≡ insert t a n v
-    unfolding insert
-    insert-short h = rw (rules, h)
+  -- as many are blocked as may be
+  pub enter-blocked : leb (t .most) (t .waiting .total) ≡ true → notInserted t a n v ≡ insertOpen t a n v
+  enter-blocked h = rw h
 
-    module _ (long : longEnough a ≡ true) where
-      pub insert-closed : t .active ≡ false → inserting t (Insert.Refused NoSection) ≡ insert t a n v
-      unfolding insert
-      insert-closed h = rw (rules, long, h)
+  module _ (under : leb (t .most) (t .waiting .total) ≡ false) (r : Room) (e : r ≡ roomFor (t .ring) (lowestUsed t) (length n) (length v)) where
+    pub enter-no-room : r .made ≡ false → notInserted t a n v ≡ insertOpen t a n v
+    enter-no-room h = rw (← e, under, h)
 
-      module _ (active : t .active ≡ true) where
-        pub insert-blocked : t .most ≤ t .waiting .total → notInserted t a n v ≡ insert t a n v
-        unfolding insert
-        insert-blocked h = rw (rules, long, active, le-leb _ _ h)
-
-        module _ (under : t .waiting .total < t .most) (r : Room) (e : r ≡ roomFor (t .ring) (lowestUsed t) (length n) (length v)) where
-          pub insert-no-room : r .made ≡ false → notInserted t a n v ≡ insert t a n v
-          unfolding insert
-          insert-no-room h = rw (← e, rules, long, active, lt-leb _ _ under, h)
-
-          pub insert-room : r .made ≡ true → made t r a n v ≡ insert t a n v
-          unfolding insert
-          insert-room h = rw (← e, rules, long, active, lt-leb _ _ under, h)
+    pub enter-room : r .made ≡ true → made t r a n v ≡ insertOpen t a n v
+    enter-room h = rw (← e, under, h)
 
 -- ---- in the model
 
@@ -124,16 +115,3 @@ inserts t a b n v r shape e f =
       model = λ u. rw (f, e) (insert-answers t a n v shape u .model);
       kept = λ u. rw (f, e) (insert-answers t a n v shape u .kept);
     }
-
--- ---- where the ring stays, so do the strings
-
-module _ (t : Table) (a n v : List ℕ) (shape : Shape t) (r : Inserting) where
-  stays : r ≡ insert t a n v → r .table .ring ≡ t .ring → Inserts t a a n v r
-  stays e same = inserts t a a n v r shape e (sym (same-bytes t a n v (r .table) same))
-
-  pub inserts-refused : (w : Refusal) → r ≡ inserting t (Insert.Refused w) → inserting t (Insert.Refused w) ≡ insert t a n v → Inserts t a a n v r
-  inserts-refused w e h = stays (e ∙ h) (ap (λ (x : Inserting). x .table .ring) e)
-
-  pub inserts-named : sound t ≡ true → t .active ≡ true → r ≡ notInserted t a n v → notInserted t a n v ≡ insert t a n v → Inserts t a a n v r
-  inserts-named rules active e h =
-      stays (e ∙ h) (ap (λ (x : Inserting). x .table .ring) e ∙ unmade t a n v rules active (shape .uses) .ring)

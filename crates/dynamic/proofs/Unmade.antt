@@ -1,5 +1,5 @@
 -- An insertion that is not made, to the last field, is one in the model, and keeps the rules; and its answer by the searches. Assumes nothing.
-use mathlib.Core.Path.{_≡_, refl}
+use mathlib.Core.Path.{_≡_, refl, ap, _∙_}
 use mathlib.Core.Bool.{Bool, true, false, cond}
 use mathlib.Core.List.{List, [], _∷_}
 use mathlib.Core.Option.{Option, some, none}
@@ -7,6 +7,8 @@ use Prim.Native.Nat.{ℕ}
 use lib.ListN.{length}
 use Rattle.answers.specs.Answer.{done}
 use Rattle.answers.specs.Table.{inserted}
+use Rattle.answers.specs.declared.Find.{Find}
+use Rattle.answers.specs.declared.Find.the-variants.{Found}
 use Rattle.answers.specs.declared.Insert.{Insert}
 use Rattle.answers.specs.declared.Insertion.{Insertion}
 use Rattle.answers.specs.declared.Insertion.the-variants.{NotInserted}
@@ -22,10 +24,11 @@ use Rattle.model.specs.Table.{Step}
 use Rattle.ring.specs.Ring.{fieldsOf}
 use Rattle.static_table.specs.Static.{lowestName}
 use Rattle.tracking.specs.declared.Noted.{Noted}
-use Rattle.dynamic.specs.Calls.{latestOf, notedIn, withUses, withNoted, inserting, notMade, nameAt, notInserted}
+use Rattle.dynamic.specs.Calls.{latestOf, notedIn, withUses, withNoted, looked, foundAt, inserting, notMade, nameAt, notInserted}
 use Rattle.dynamic.specs.Promise.{outcome}
 use Rattle.dynamic.specs.Record.{usesHere, view, sound}
 use Rattle.dynamic.specs.declared.Inserting.{Inserting}
+use Rattle.dynamic.specs.declared.Looked.{Looked}
 use Rattle.dynamic.specs.declared.Table.{Table}
 use Rattle.dynamic.proofs.Searched.{found-within}
 use Rattle.dynamic.proofs.Refer.{Refers, entryAt, noted-sound, noted-here}
@@ -33,24 +36,32 @@ use Rattle.dynamic.proofs.Finding.{openHere}
 
 -- ---- the answer by the searches
 
+-- the insert that a search stands for, where no entry is made
+abbrev pub insertOf : Find → Insert
+insertOf (Found l) = Insert.Insertion (NotInserted l)
+insertOf (Find.Refused w) = Insert.Refused w
+
+abbrev pub namedBy : Looked → Inserting
+namedBy x = inserting (x .table) (insertOf (x .found))
+
 module _ (t : Table) (a n v : List ℕ) where
   pub only-static : (i : ℕ) → lowestName n ≡ some i → notMade t (Static i) ≡ notInserted t a n v
   unfolding notInserted
   only-static i h = rw h
 
-  module _ (unlisted : lowestName n ≡ none) where
-    pub only-nothing : latestOf t a n v false ≡ none → notMade t NotFound ≡ notInserted t a n v
-    unfolding notInserted
-    only-nothing h = rw (unlisted, h)
+  named-at : (o : Option ℕ) → namedBy (foundAt t o) ≡ nameAt t o
+  named-at none = refl
+  named-at (some k) = go (notedIn (t .section) (entryAt t k)) (notedIn (t .section) (entryAt t k) .fits)
+    where
+      go : (r : Noted) (b : Bool)
+          → namedBy (cond b (looked (withNoted r t) (Found (sections.lookupOf (t .base) (entryAt t k)))) (looked t (Find.Refused TrackingFull)))
+          ≡ cond b (notMade (withNoted r t) (sections.lookupOf (t .base) (entryAt t k))) (inserting t (Insert.Refused TrackingFull))
+      go r true = refl
+      go r false = refl
 
-    module _ (k : ℕ) (h : latestOf t a n v false ≡ some k) (r : Noted) (e : r ≡ notedIn (t .section) (entryAt t k)) where
-      pub only-full : r .fits ≡ false → inserting t (Insert.Refused TrackingFull) ≡ notInserted t a n v
-      unfolding notInserted
-      only-full f = rw (unlisted, h, ← e, f)
-
-      pub only-name : r .fits ≡ true → notMade (withNoted r t) (sections.lookupOf (t .base) (entryAt t k)) ≡ notInserted t a n v
-      unfolding notInserted
-      only-name f = rw (unlisted, h, ← e, f)
+  pub only-found : lowestName n ≡ none → (x : Looked) → x ≡ foundAt t (latestOf t a n v false) → namedBy x ≡ notInserted t a n v
+  unfolding notInserted
+  only-found unlisted x e = ap namedBy e ∙ named-at (latestOf t a n v false) ∙ rw unlisted
 
 -- ---- in the model
 

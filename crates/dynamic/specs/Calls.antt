@@ -135,6 +135,41 @@ raised k t =
       section = t .section;
     }
 
+-- what a record has beside its entries, its base and its section
+pub record Rest : Type 0 where
+  pub known : ℕ
+  pub most : ℕ
+  pub waiting : Waiting
+  pub queue : Queue
+  pub active : Bool
+
+abbrev pub tableOf : Ring → ℕ → Section → Rest → Table
+tableOf r b s o =
+    record {
+      ring = r;
+      known = o .known;
+      most = o .most;
+      waiting = o .waiting;
+      queue = o .queue;
+      active = o .active;
+      base = b;
+      section = s;
+    }
+
+abbrev pub restOf : Table → Rest
+restOf t = record { known = t .known; most = t .most; waiting = t .waiting; queue = t .queue; active = t .active }
+
+-- the entries, the base and the section of a record that keeps its rules and has a section open
+pub record Opens (r : Ring) (b : ℕ) (s : Section) : Type 0 where
+  pub rest : Rest
+  pub rules : sound (tableOf r b s rest) ≡ true
+  pub active : rest .active ≡ true
+
+-- and the lowest entry that its sections use
+pub record OpensAbove (r : Ring) (b : ℕ) (s : Section) (low : ℕ) : Type 0 where
+  pub opens : Opens r b s
+  pub lowest : low ≡ lowestUsed (tableOf r b s (opens .rest))
+
 abbrev pub answer : Table → Reply → Replied
 answer t r = record { table = t; reply = r }
 
@@ -341,9 +376,18 @@ pub record RoomOf (t : Table) (low : ℕ) (r : Room) (n v : List ℕ) : Type 0 w
   pub room : r ≡ roomFor (t .ring) low (length n) (length v)
   pub made : r .made ≡ true
 
+pub record OpensFor (r : Ring) (b : ℕ) (s : Section) (low : ℕ) (m : Room) (n v : List ℕ) : Type 0 where
+  pub opens : Opens r b s
+  pub room : RoomOf (tableOf r b s (opens .rest)) low m n v
+
 -- the arena after a call that may insert: the new entry's strings stand at the head
 abbrev pub bytesAfter : Table → Table → List ℕ → List ℕ → List ℕ → List ℕ
 bytesAfter t u a n v = cond (ltb (t .ring .inserted) (u .ring .inserted)) (ringWrite a (t .ring .head) (n ++ v)) a
+
+-- by what the call is admitted with
+abbrev pub insertFirst : Reply → Table → List ℕ → List ℕ → List ℕ → Inserting
+insertFirst (Reply.Refused w) t a n v = inserting t (Insert.Refused w)
+insertFirst Reply.Done t a n v = insertOpen t a n v
 
 unfoldable pub insert : Table → List ℕ → List ℕ → List ℕ → Inserting
 insert t a n v =

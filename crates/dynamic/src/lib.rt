@@ -11,7 +11,7 @@ ghost use Rattle.model.specs.Section as model-section;
 ghost use Rattle.ring.specs.Ring.{largestCount};
 ghost use Rattle.dynamic.specs.Calls as calls;
 ghost use Rattle.dynamic.specs.Promise.{Keeps, Puts, Finds, Inserts};
-ghost use Rattle.dynamic.specs.Record.{sound, checking};
+ghost use Rattle.dynamic.specs.Record.{sound, lowestUsed, checking};
 use answers::Find;
 use answers::Insert;
 use answers::Insertion;
@@ -75,6 +75,19 @@ pub struct Looked {
 pub struct Inserting {
     pub table: Table,
     pub inserted: Insert,
+}
+
+// A section's uses after a search, and the search's answer.
+struct Sought {
+    section: Section,
+    found: Find,
+}
+
+// The entries and a section's uses after an insert, and the insert's answer.
+struct Entered {
+    ring: Ring,
+    section: Section,
+    inserted: Insert,
 }
 
 // A queue after a report, and the report's answer.
@@ -199,6 +212,162 @@ fn note_origin(section: Section, absolute: usize, origin: Origin) -> Noted
         Origin::StaticName(_) => first,
         Origin::NamedEntry(older) => note(with_uses(section, first), older),
         Origin::Plain => first,
+    }
+}
+
+// The latest entry of a name or of a whole field, which the section then uses.
+fn seek(
+    ring: Ring,
+    base: usize,
+    section: Section,
+    arena: &[u8],
+    name: &[u8],
+    value: &[u8],
+    whole: bool,
+) -> Sought
+    requires { ⌜ calls.Opens ring base section × (longEnough (now arena) ≡ true) ⌝ }
+    ensures { λ r. ⌜ ((o : calls.Rest) → calls.looked (calls.tableOf ring base (r .section) o) (r .found)
+        ≡ calls.foundAt (calls.tableOf ring base section o) (calls.latestOf (calls.tableOf ring base section o) (now (arena .entry)) (now (name .entry)) (now (value .entry)) «whole»)) ⌝ }
+{
+    let mut next = section;
+    let mut found = Find::Found(Lookup::NotFound);
+    let latest = ring.newest(arena, ring.dropped, name, value, whole);
+    if let Latest::At(k) = latest {
+        let absolute = ring.dropped + k + 1;
+        let noted = note(section, absolute);
+        if noted.fits {
+            next = with_uses(section, noted);
+            found = Find::Found(lookup_of(base, absolute));
+        } else {
+            found = Find::Refused(Refusal::TrackingFull);
+        }
+    }
+    Sought {
+        section: next,
+        found,
+    }
+}
+
+// An insertion that is not made: what names the field.
+fn name_only(
+    ring: Ring,
+    base: usize,
+    section: Section,
+    arena: &[u8],
+    name: &[u8],
+    value: &[u8],
+) -> Entered
+    requires { ⌜ calls.Opens ring base section × (longEnough (now arena) ≡ true) ⌝ }
+    ensures { λ r. ⌜ ((o : calls.Rest) → calls.inserting (calls.tableOf (r .ring) base (r .section) o) (r .inserted)
+        ≡ calls.notInserted (calls.tableOf ring base section o) (now (arena .entry)) (now (name .entry)) (now (value .entry))) ⌝ }
+    ensures { λ r. ⌜ r .ring ≡ ring ⌝ }
+{
+    let mut next = section;
+    let mut inserted = Insert::Refused(Refusal::TrackingFull);
+    let fixed = static_table::find_name(name);
+    match fixed {
+        StaticFound::At(i) => {
+            inserted = Insert::Insertion(Insertion::NotInserted(Lookup::Static(i)));
+        }
+        StaticFound::Nothing => {
+            let s = seek(ring, base, section, arena, name, value, false);
+            next = s.section;
+            let found = s.found;
+            match found {
+                Find::Found(lookup) => {
+                    inserted = Insert::Insertion(Insertion::NotInserted(lookup));
+                }
+                Find::Refused(why) => {
+                    inserted = Insert::Refused(why);
+                }
+            }
+        }
+    }
+    Entered {
+        ring,
+        section: next,
+        inserted,
+    }
+}
+
+// An insertion for which there is room.
+fn insert_made(
+    ring: Ring,
+    base: usize,
+    section: Section,
+    arena: &mut [u8],
+    low: usize,
+    room: Room,
+    name: &[u8],
+    value: &[u8],
+) -> Entered
+    requires { ⌜ calls.OpensFor ring base section low room (now name) (now value) × (longEnough (now arena) ≡ true) ⌝ }
+    ensures { λ r. ⌜ ((o : calls.Rest) → low ≡ lowestUsed (calls.tableOf ring base section o) → calls.inserting (calls.tableOf (r .ring) base (r .section) o) (r .inserted)
+        ≡ calls.made (calls.tableOf ring base section o) room (now (arena .entry)) (now (name .entry)) (now (value .entry))) ⌝ }
+    ensures { λ r. ⌜ ((o : calls.Rest) → now (arena .exit)
+        ≡ calls.bytesAfter (calls.tableOf ring base section o) (calls.tableOf (r .ring) base (r .section) o) (now (arena .entry)) (now (name .entry)) (now (value .entry))) ⌝ }
+{
+    let origin = origin_of(ring, arena, ring.dropped + room.count, name, value);
+    let absolute = ring.inserted + 1;
+    let noted = note_origin(section, absolute, origin);
+    if !noted.fits {
+        return Entered {
+            ring,
+            section,
+            inserted: Insert::Refused(Refusal::TrackingFull),
+        };
+    }
+    if LARGEST_COUNT <= ring.inserted {
+        return Entered {
+            ring,
+            section,
+            inserted: Insert::Refused(Refusal::CountTooLarge),
+        };
+    }
+    let p = ring.push(arena, low, Source::Given, name, value);
+    let next = p.ring;
+    Entered {
+        ring: next,
+        section: with_uses(section, noted),
+        inserted: Insert::Insertion(insertion_of(base, absolute, origin)),
+    }
+}
+
+// What an insert comes to, first what it is admitted with; blocked tells whether no more sections may be blocked.
+fn enter(
+    first: Reply,
+    blocked: bool,
+    ring: Ring,
+    base: usize,
+    section: Section,
+    arena: &mut [u8],
+    low: usize,
+    name: &[u8],
+    value: &[u8],
+) -> Entered
+    requires { ⌜ (first ≡ Reply.Done → calls.OpensAbove ring base section low × (longEnough (now arena) ≡ true)) ⌝ }
+    ensures { λ r. ⌜ ((o : calls.Rest) → (first ≡ Reply.Done → low ≡ lowestUsed (calls.tableOf ring base section o)) → «blocked» ≡ leb (o .most) (o .waiting .total)
+        → calls.inserting (calls.tableOf (r .ring) base (r .section) o) (r .inserted)
+        ≡ calls.insertFirst first (calls.tableOf ring base section o) (now (arena .entry)) (now (name .entry)) (now (value .entry))) ⌝ }
+    ensures { λ r. ⌜ ((o : calls.Rest) → now (arena .exit)
+        ≡ calls.bytesAfter (calls.tableOf ring base section o) (calls.tableOf (r .ring) base (r .section) o) (now (arena .entry)) (now (name .entry)) (now (value .entry))) ⌝ }
+{
+    match first {
+        Reply::Refused(why) => Entered {
+            ring,
+            section,
+            inserted: Insert::Refused(why),
+        },
+        Reply::Done => {
+            if blocked {
+                return name_only(ring, base, section, arena, name, value);
+            }
+            let room = ring.room(low, name.len(), value.len());
+            if !room.made {
+                return name_only(ring, base, section, arena, name, value);
+            }
+            insert_made(ring, base, section, arena, low, room, name, value)
+        }
     }
 }
 
@@ -429,109 +598,71 @@ impl Table {
     {
         let c = self.checked();
         let reply = admitted(usable(c.sound, arena.len()), self.active, true);
-        let mut next = self;
+        let ring = self.ring;
+        let waiting = self.waiting;
+        let queue = self.queue;
+        let mut section = self.section;
         let mut found = Find::Found(Lookup::NotFound);
         match reply {
             Reply::Refused(why) => {
                 found = Find::Refused(why);
             }
             Reply::Done => {
-                let ring = self.ring;
-                let latest = ring.newest(arena, ring.dropped, name, value, true);
-                if let Latest::At(k) = latest {
-                    let absolute = ring.dropped + k + 1;
-                    let section = self.section;
-                    let noted = note(section, absolute);
-                    if noted.fits {
-                        next.section = with_uses(section, noted);
-                        found = Find::Found(lookup_of(self.base, absolute));
-                    } else {
-                        found = Find::Refused(Refusal::TrackingFull);
-                    }
-                }
+                let s = seek(ring, self.base, section, arena, name, value, true);
+                section = s.section;
+                found = s.found;
             }
         }
-        Looked { table: next, found }
+        Looked {
+            table: Table {
+                ring,
+                known: self.known,
+                most: self.most,
+                waiting,
+                queue,
+                active: self.active,
+                base: self.base,
+                section,
+            },
+            found,
+        }
     }
 
     // Inserts a field that the open section then uses, or says what names it.
-    pub fn insert(mut self, arena: &mut [u8], name: &[u8], value: &[u8]) -> Inserting
+    pub fn insert(self, arena: &mut [u8], name: &[u8], value: &[u8]) -> Inserting
         ensures { λ r. ⌜ Inserts self (now (arena .entry)) (now (arena .exit)) (now (name .entry)) (now (value .entry)) r ⌝ }
     {
         let c = self.checked();
-        if !c.sound {
-            return not_inserted(self, Refusal::BadCall);
-        }
-        if arena.len() < RING {
-            return not_inserted(self, Refusal::BadCall);
-        }
-        if !self.active {
-            return not_inserted(self, Refusal::NoSection);
-        }
-        if self.most <= self.waiting.total {
-            return self.name_only(arena, name, value);
-        }
-        let room = self.ring.room(c.low, name.len(), value.len());
-        if !room.made {
-            return self.name_only(arena, name, value);
-        }
-        self.insert_made(arena, c.low, room, name, value)
-    }
-
-    // An insertion that is not made: what names the field.
-    fn name_only(mut self, arena: &[u8], name: &[u8], value: &[u8]) -> Inserting
-        requires { ⌜ (sound self ≡ true) × (longEnough (now arena) ≡ true) × (self .active ≡ true) ⌝ }
-        ensures { λ r. ⌜ r ≡ calls.notInserted self (now (arena .entry)) (now (name .entry)) (now (value .entry)) ⌝ }
-    {
-        let fixed = static_table::find_name(name);
-        if let StaticFound::At(i) = fixed {
-            return named(self, Lookup::Static(i));
-        }
-        let ring = self.ring;
-        let Latest::At(k) = ring.newest(arena, ring.dropped, name, value, false) else {
-            return named(self, Lookup::NotFound);
-        };
-        let absolute = ring.dropped + k + 1;
-        let section = self.section;
-        let noted = note(section, absolute);
-        if !noted.fits {
-            return not_inserted(self, Refusal::TrackingFull);
-        }
-        self.section = with_uses(section, noted);
-        named(self, lookup_of(self.base, absolute))
-    }
-
-    // An insertion for which there is room.
-    fn insert_made(
-        mut self,
-        arena: &mut [u8],
-        low: usize,
-        room: Room,
-        name: &[u8],
-        value: &[u8],
-    ) -> Inserting
-        requires { ⌜ (sound self ≡ true) × (longEnough (now arena) ≡ true) × (self .active ≡ true) × calls.RoomOf self low room (now name) (now value) ⌝ }
-        ensures { λ r. ⌜ r ≡ calls.made self room (now (arena .entry)) (now (name .entry)) (now (value .entry)) ⌝ }
-        ensures { λ r. ⌜ now (arena .exit) ≡ calls.bytesAfter self (r .table) (now (arena .entry)) (now (name .entry)) (now (value .entry)) ⌝ }
-    {
-        let ring = self.ring;
-        let origin = origin_of(ring, arena, ring.dropped + room.count, name, value);
-        let absolute = ring.inserted + 1;
-        let section = self.section;
-        let noted = note_origin(section, absolute, origin);
-        if !noted.fits {
-            return not_inserted(self, Refusal::TrackingFull);
-        }
-        if LARGEST_COUNT <= ring.inserted {
-            return not_inserted(self, Refusal::CountTooLarge);
-        }
-        let p = ring.push(arena, low, Source::Given, name, value);
-        let next = p.ring;
-        self.ring = next;
-        self.section = with_uses(section, noted);
+        let first = admitted(usable(c.sound, arena.len()), self.active, true);
+        let blocked = self.most <= self.waiting.total;
+        let e = enter(
+            first,
+            blocked,
+            self.ring,
+            self.base,
+            self.section,
+            arena,
+            c.low,
+            name,
+            value,
+        );
+        let ring = e.ring;
+        let waiting = self.waiting;
+        let queue = self.queue;
+        let section = e.section;
+        let inserted = e.inserted;
         Inserting {
-            table: self,
-            inserted: Insert::Insertion(insertion_of(self.base, absolute, origin)),
+            table: Table {
+                ring,
+                known: self.known,
+                most: self.most,
+                waiting,
+                queue,
+                active: self.active,
+                base: self.base,
+                section,
+            },
+            inserted,
         }
     }
 
@@ -636,23 +767,5 @@ impl Table {
             }
         }
         Replied { table: next, reply }
-    }
-}
-
-fn not_inserted(table: Table, why: Refusal) -> Inserting
-    ensures { λ r. ⌜ r ≡ calls.inserting table (Insert.Refused why) ⌝ }
-{
-    Inserting {
-        table,
-        inserted: Insert::Refused(why),
-    }
-}
-
-fn named(table: Table, lookup: Lookup) -> Inserting
-    ensures { λ r. ⌜ r ≡ calls.notMade table lookup ⌝ }
-{
-    Inserting {
-        table,
-        inserted: Insert::Insertion(Insertion::NotInserted(lookup)),
     }
 }
