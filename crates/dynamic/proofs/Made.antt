@@ -96,9 +96,6 @@ module _ (t : Table) (a n v : List ℕ) where
   pub same-bytes : (u : Table) → u .ring ≡ t .ring → bytesAfter t u a n v ≡ a
   same-bytes u e = rw (e, le-ltb (t .ring .inserted) (t .ring .inserted) (omega arith))
 
-  pub refused-bytes : (r : Inserting) (w : Refusal) → r ≡ inserting t (Insert.Refused w) → a ≡ bytesAfter t (r .table) a n v
-  refused-bytes r w e = sym (same-bytes (r .table) (ap (λ (x : Inserting). x .table .ring) e))
-
   pub new-bytes : (u : Table) → u .ring .inserted ≡ t .ring .inserted + 1 → bytesAfter t u a n v ≡ ringWrite a (t .ring .head) (n ++ v)
   new-bytes u e = rw (e, lt-ltb (t .ring .inserted) (t .ring .inserted + 1) (omega arith))
 

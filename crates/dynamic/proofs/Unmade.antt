@@ -12,7 +12,7 @@ use Rattle.answers.specs.declared.Find.the-variants.{Found}
 use Rattle.answers.specs.declared.Insert.{Insert}
 use Rattle.answers.specs.declared.Insertion.{Insertion}
 use Rattle.answers.specs.declared.Insertion.the-variants.{NotInserted}
-use Rattle.answers.specs.declared.Lookup.the-variants.{Static, NotFound}
+use Rattle.answers.specs.declared.Lookup.the-variants.{Static}
 use Rattle.answers.specs.declared.Refusal.the-variants.{TrackingFull}
 use Rattle.entries.specs.Latest.{lastOf, matches}
 use Rattle.entries.proofs.Last.{matches-name}

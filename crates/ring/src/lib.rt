@@ -333,8 +333,11 @@ impl Ring {
             name.len(),
             value.len(),
         );
+        let mut push = Push::Made;
         match plan {
-            Plan::Refused(push) => Pushed { ring: self, push },
+            Plan::Refused(why) => {
+                push = why;
+            }
             Plan::Ready(e, m) => {
                 place(arena, self.head, source, e, name, value);
                 let i = self.inserted % SLOTS;
@@ -346,12 +349,9 @@ impl Ring {
                 self.size = m.size + (e.name + e.value + ESTIMATED_OVERHEAD_BYTES);
                 self.tail = m.tail;
                 self.head = (self.head + (e.name + e.value)) % RING;
-                Pushed {
-                    ring: self,
-                    push: Push::Made,
-                }
             }
         }
+        Pushed { ring: self, push }
     }
 
     // Another capacity, after the fewest old entries below low went.

@@ -1,5 +1,5 @@
 -- `dynamic::Table::cancel`: a release from the queue, put back into the record. Assumes nothing.
-use mathlib.Core.Path.{_≡_, refl, sym, ap, _∙_}
+use mathlib.Core.Path.{_≡_, refl, ap, _∙_}
 use mathlib.Core.Bool.{Bool, false}
 use lib.ListN.{length, length-map}
 use borrow.Author.Needs.{needs}
