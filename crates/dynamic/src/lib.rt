@@ -1,7 +1,7 @@
 // The dynamic table, RFC 9204 3.2: its record, the calls on it, the open section and the peer's reports.
 ghost use mathlib.Core.Path.{_≡_};
 ghost use mathlib.Core.Bool.{true, false, _&&_};
-ghost use Prim.Native.Nat.{_+_, _-_, _≤_, _<_, _^_};
+ghost use Prim.Native.Nat.{ℕ, _+_, _-_, _≤_, _<_, _^_};
 ghost use lib.Dec.{leb};
 ghost use Rattle.arena.specs.Ring.{ring as ringBytes, longEnough};
 ghost use Rattle.model.specs.Drop as model-table;
@@ -11,7 +11,7 @@ ghost use Rattle.model.specs.Section as model-section;
 ghost use Rattle.ring.specs.Ring.{largestCount};
 ghost use Rattle.dynamic.specs.Calls as calls;
 ghost use Rattle.dynamic.specs.Promise.{Keeps, Puts, Finds, Inserts};
-ghost use Rattle.dynamic.specs.Record.{sound, lowestUsed, checking};
+ghost use Rattle.dynamic.specs.Record.{sound, usable as usable-record, lowestUsed, checking};
 use answers::Find;
 use answers::Insert;
 use answers::Insertion;
@@ -75,6 +75,12 @@ pub struct Looked {
 pub struct Inserting {
     pub table: Table,
     pub inserted: Insert,
+}
+
+// The entries after a call, and its answer.
+struct Ringed {
+    ring: Ring,
+    reply: Reply,
 }
 
 // A section's uses after a search, and the search's answer.
@@ -189,6 +195,58 @@ fn admitted(sound: bool, active: bool, wanted: bool) -> Reply
     Reply::Done
 }
 
+// The entries with another capacity, first what the call is admitted with.
+fn set_size(first: Reply, ring: Ring, low: usize, capacity: usize) -> Ringed
+    ensures { λ r. ⌜ ((b : ℕ) (s : Section) (o : calls.Rest) → first ≡ calls.admitted (sound (calls.tableOf ring b s o)) (o .active) false
+        → (first ≡ Reply.Done → low ≡ lowestUsed (calls.tableOf ring b s o))
+        → calls.answer (calls.tableOf (r .ring) b s o) (r .reply) ≡ calls.setCapacity (calls.tableOf ring b s o) capacity) ⌝ }
+{
+    let mut next = ring;
+    let mut reply = first;
+    if let Reply::Done = reply {
+        let test = capacity_test(capacity);
+        match test {
+            CapacityTest::Refused(why) => {
+                reply = Reply::Refused(why);
+            }
+            CapacityTest::Within => {
+                let cut = ring.cut(low, capacity);
+                if cut.made {
+                    next = cut.ring;
+                } else {
+                    reply = Reply::Refused(Refusal::ShrinkBlocked);
+                }
+            }
+        }
+    }
+    Ringed { ring: next, reply }
+}
+
+// The entries with one more, where it can be, first what the call is admitted with.
+fn put_in(
+    first: Reply,
+    ring: Ring,
+    arena: &mut [u8],
+    low: usize,
+    name: &[u8],
+    value: &[u8],
+) -> Ringed
+    ensures { λ r. ⌜ ((b : ℕ) (s : Section) (o : calls.Rest) → first ≡ calls.admitted (usable-record (calls.tableOf ring b s o) (now (arena .entry))) (o .active) false
+        → (first ≡ Reply.Done → low ≡ lowestUsed (calls.tableOf ring b s o))
+        → Puts (calls.tableOf ring b s o) (now (arena .entry)) (now (arena .exit)) (calls.put (calls.tableOf ring b s o) (now (arena .entry)) (now (name .entry)) (now (value .entry)))
+        (calls.answer (calls.tableOf (r .ring) b s o) (r .reply)) (now (name .entry)) (now (value .entry))) ⌝ }
+{
+    let mut next = ring;
+    let mut reply = first;
+    if let Reply::Done = reply {
+        let p = ring.push(arena, low, Source::Given, name, value);
+        let push = p.push;
+        next = p.ring;
+        reply = push_reply(ring.capacity, push);
+    }
+    Ringed { ring: next, reply }
+}
+
 // A section's uses with one more of an entry.
 fn note(section: Section, entry: usize) -> Noted
     requires { ⌜ (section .from ≤ entry) × (entry - section .from < 2 ^ 16) ⌝ }
@@ -245,6 +303,30 @@ fn seek(
     Sought {
         section: next,
         found,
+    }
+}
+
+// What a find comes to, first what it is admitted with.
+fn find_in(
+    first: Reply,
+    ring: Ring,
+    base: usize,
+    section: Section,
+    arena: &[u8],
+    name: &[u8],
+    value: &[u8],
+) -> Sought
+    requires { ⌜ (first ≡ Reply.Done → calls.Opens ring base section × (longEnough (now arena) ≡ true)) ⌝ }
+    ensures { λ r. ⌜ ((o : calls.Rest) → first ≡ calls.admitted (usable-record (calls.tableOf ring base section o) (now (arena .entry))) (o .active) true
+        → calls.looked (calls.tableOf ring base (r .section) o) (r .found)
+        ≡ calls.find (calls.tableOf ring base section o) (now (arena .entry)) (now (name .entry)) (now (value .entry))) ⌝ }
+{
+    match first {
+        Reply::Refused(why) => Sought {
+            section,
+            found: Find::Refused(why),
+        },
+        Reply::Done => seek(ring, base, section, arena, name, value, true),
     }
 }
 
@@ -477,43 +559,34 @@ impl Table {
         }
     }
 
+    // The record with other entries, another queue and another section.
+    fn with(self, ring: Ring, queue: Queue, section: Section) -> Table
+        ensures { λ r. ⌜ r ≡ calls.withRing ring (calls.withQueue queue (calls.withSection (self .active) (self .base) section self)) ⌝ }
+    {
+        let waiting = self.waiting;
+        Table {
+            ring,
+            known: self.known,
+            most: self.most,
+            waiting,
+            queue,
+            active: self.active,
+            base: self.base,
+            section,
+        }
+    }
+
     // Sets the capacity.
     pub fn set_capacity(self, capacity: usize) -> Replied
         ensures { λ r. ⌜ Keeps self (calls.setCapacity self capacity) r (λ t. model-table.setCapacity t capacity) ⌝ }
     {
         let c = self.checked();
-        let mut reply = admitted(c.sound, self.active, false);
-        let mut ring = self.ring;
-        let waiting = self.waiting;
-        let queue = self.queue;
-        let section = self.section;
-        if let Reply::Done = reply {
-            let test = capacity_test(capacity);
-            match test {
-                CapacityTest::Refused(why) => {
-                    reply = Reply::Refused(why);
-                }
-                CapacityTest::Within => {
-                    let cut = self.ring.cut(c.low, capacity);
-                    if cut.made {
-                        ring = cut.ring;
-                    } else {
-                        reply = Reply::Refused(Refusal::ShrinkBlocked);
-                    }
-                }
-            }
-        }
+        let first = admitted(c.sound, self.active, false);
+        let r = set_size(first, self.ring, c.low, capacity);
+        let ring = r.ring;
+        let reply = r.reply;
         Replied {
-            table: Table {
-                ring,
-                known: self.known,
-                most: self.most,
-                waiting,
-                queue,
-                active: self.active,
-                base: self.base,
-                section,
-            },
+            table: self.with(ring, self.queue, self.section),
             reply,
         }
     }
@@ -540,28 +613,12 @@ impl Table {
         ensures { λ r. ⌜ Puts self (now (arena .entry)) (now (arena .exit)) (calls.put self (now (arena .entry)) (now (name .entry)) (now (value .entry))) r (now (name .entry)) (now (value .entry)) ⌝ }
     {
         let c = self.checked();
-        let mut reply = admitted(usable(c.sound, arena.len()), self.active, false);
-        let mut ring = self.ring;
-        let waiting = self.waiting;
-        let queue = self.queue;
-        let section = self.section;
-        if let Reply::Done = reply {
-            let p = self.ring.push(arena, c.low, Source::Given, name, value);
-            let push = p.push;
-            ring = p.ring;
-            reply = push_reply(self.ring.capacity, push);
-        }
+        let first = admitted(usable(c.sound, arena.len()), self.active, false);
+        let r = put_in(first, self.ring, arena, c.low, name, value);
+        let ring = r.ring;
+        let reply = r.reply;
         Replied {
-            table: Table {
-                ring,
-                known: self.known,
-                most: self.most,
-                waiting,
-                queue,
-                active: self.active,
-                base: self.base,
-                section,
-            },
+            table: self.with(ring, self.queue, self.section),
             reply,
         }
     }
@@ -597,33 +654,20 @@ impl Table {
         ensures { λ r. ⌜ Finds self (now (arena .entry)) (now (name .entry)) (now (value .entry)) r ⌝ }
     {
         let c = self.checked();
-        let reply = admitted(usable(c.sound, arena.len()), self.active, true);
-        let ring = self.ring;
-        let waiting = self.waiting;
-        let queue = self.queue;
-        let mut section = self.section;
-        let mut found = Find::Found(Lookup::NotFound);
-        match reply {
-            Reply::Refused(why) => {
-                found = Find::Refused(why);
-            }
-            Reply::Done => {
-                let s = seek(ring, self.base, section, arena, name, value, true);
-                section = s.section;
-                found = s.found;
-            }
-        }
+        let first = admitted(usable(c.sound, arena.len()), self.active, true);
+        let s = find_in(
+            first,
+            self.ring,
+            self.base,
+            self.section,
+            arena,
+            name,
+            value,
+        );
+        let section = s.section;
+        let found = s.found;
         Looked {
-            table: Table {
-                ring,
-                known: self.known,
-                most: self.most,
-                waiting,
-                queue,
-                active: self.active,
-                base: self.base,
-                section,
-            },
+            table: self.with(self.ring, self.queue, section),
             found,
         }
     }
@@ -647,21 +691,10 @@ impl Table {
             value,
         );
         let ring = e.ring;
-        let waiting = self.waiting;
-        let queue = self.queue;
         let section = e.section;
         let inserted = e.inserted;
         Inserting {
-            table: Table {
-                ring,
-                known: self.known,
-                most: self.most,
-                waiting,
-                queue,
-                active: self.active,
-                base: self.base,
-                section,
-            },
+            table: self.with(ring, self.queue, section),
             inserted,
         }
     }
@@ -714,7 +747,13 @@ impl Table {
     {
         let c = self.checked();
         let first = admitted(c.sound, self.active, false);
-        self.after(release(first, self.queue, stream))
+        let r = release(first, self.queue, stream);
+        let queue = r.queue;
+        let reply = r.reply;
+        Replied {
+            table: self.with(self.ring, queue, self.section),
+            reply,
+        }
     }
 
     // The peer cancelled a stream.
@@ -723,29 +762,11 @@ impl Table {
     {
         let c = self.checked();
         let first = admitted(c.sound, self.active, false);
-        self.after(release(first, self.queue, stream))
-    }
-
-    // The record after a report on its queue.
-    fn after(self, r: Report) -> Replied
-        ensures { λ x. ⌜ x ≡ calls.answer (calls.withQueue (r .queue) self) (r .reply) ⌝ }
-    {
-        let ring = self.ring;
-        let waiting = self.waiting;
+        let r = release(first, self.queue, stream);
         let queue = r.queue;
-        let section = self.section;
         let reply = r.reply;
         Replied {
-            table: Table {
-                ring,
-                known: self.known,
-                most: self.most,
-                waiting,
-                queue,
-                active: self.active,
-                base: self.base,
-                section,
-            },
+            table: self.with(self.ring, queue, self.section),
             reply,
         }
     }

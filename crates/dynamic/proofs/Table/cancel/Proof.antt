@@ -4,7 +4,8 @@ use mathlib.Core.Bool.{Bool, false}
 use lib.ListN.{length, length-map}
 use borrow.Author.Needs.{needs}
 use Rattle.model.specs.Bounds.{queuePlaces}
-use Rattle.dynamic.specs.Calls.{admitted}
+use Rattle.dynamic.specs.Calls.{answer, admitted}
+use Rattle.dynamic.specs.declared.Table.{Table}
 use Rattle.dynamic.proofs.Reports.{release-keeps}
 use Rattle.dynamic.proofs.Told.{told-sound}
 use Rattle.dynamic.proofs.Table.cancel.Statement.{statement}
@@ -22,18 +23,19 @@ admitted-requires c κs = search needs
 release-requires : tie.Need-release-requires
 release-requires c κs = search needs
 
-after-requires : tie.Need-after-requires
-after-requires c κs = search needs
+with-requires : tie.Need-with-requires
+with-requires c κs = search needs
 
 returns : tie.Need-returns
 returns c =
-    let r = c .before in
+    let r = c .before .before in
     let a = r .before in
     let w = a .before in
     let z = w .before .args in
     let told = told-sound (z .self) (w .checked .result) (w .checked .ensures) in
     let first = a .admitted .ensures ∙ ap (λ (k : Bool). admitted k (z .self .active) false) told in
-    release-keeps (z .self) (z .stream) _ (whole (w .before)) (c .after .ensures ∙ r .release .ensures (z .self) refl first)
+    release-keeps (z .self) (z .stream) _ (whole (w .before))
+    (ap (λ (x : Table). answer x (r .release .result .reply)) (c .with .ensures) ∙ r .release .ensures (z .self) refl first)
 
 pub cancel-spec : {M : Type 1} → statement M
-cancel-spec = tie.close (tie.spec checked-requires admitted-requires release-requires after-requires returns)
+cancel-spec = tie.close (tie.spec checked-requires admitted-requires release-requires with-requires returns)

@@ -1,21 +1,19 @@
--- `dynamic::Table::find`: what was not admitted, or what the search gives, put back into the record. Assumes nothing.
-use mathlib.Core.Path.{_≡_, sym, _∙_}
-use mathlib.Core.Bool.{true}
+-- `dynamic::Table::find`: what `find_in` gives, put back into the record. Assumes nothing.
+use mathlib.Core.Path.{_≡_, ap, _∙_}
+use mathlib.Core.Bool.{Bool, true}
 use lib.ListN.{length, length-map}
 use borrow.Author.Needs.{needs}
 use denote.Ref.{now}
-use Rattle.arena.specs.Ring.{longEnough}
 use Rattle.entries.proofs.Chain.{and-left, and-right}
 use Rattle.model.specs.Bounds.{sectionEntries}
-use Rattle.dynamic.specs.Calls.{restOf}
+use Rattle.dynamic.specs.Calls.{restOf, admitted, looked}
 use Rattle.dynamic.specs.Record.{sound, usable}
-use Rattle.dynamic.proofs.Finding.{finds, find-refused, find-open}
+use Rattle.dynamic.specs.declared.Table.{Table}
+use Rattle.dynamic.proofs.Finding.{finds}
 use Rattle.dynamic.proofs.Steps.{open-admitted}
 use Rattle.dynamic.proofs.Told.{told-usable}
 use Rattle.dynamic.proofs.Table.find.Statement.{statement}
 use Rattle.dynamic.proofs.Table.find.Tie as tie
-
--- ---- what is known at a place
 
 uses : (z : tie.Start) → length (z .args .self .section .uses) ≡ sectionEntries
 uses z = simp length-map at (z .good .0 .1 .1 .1 .1 .1 .1 .1 .1 .1 .0 .1 .1 .1 .1 .1 .0 .1 .0 .1)
@@ -29,25 +27,12 @@ tells c =
     let z = begun (c .before) .args in
     told-usable (z .self) (c .before .checked .result) (c .before .checked .ensures) (now (z .arena)) _ (c .usable .ensures)
 
--- the parts were taken out of the record
-abbrev began : tie.After-section → tie.After-admitted
-began c = c .before .before .before .before
+abbrev start : tie.After-admitted → tie.Start
+start c = begun (c .before .before)
 
-abbrev first : tie.After-enum-told → tie.Start
-first c = begun (began (c .before .before) .before .before)
-
--- a section is open, and the record may be used
-passed : (c : tie.After-enum-told) → let z = first c .args in (usable (z .self) (now (z .arena)) ≡ true) × (z .self .active ≡ true)
-passed c =
-    let a = began (c .before .before) in
-    let p = open-admitted _ (c .enum-told .given .1) _ _ (a .admitted .ensures) in
-    (sym (tells (a .before)) ∙ p .0, p .1)
-
-rules : (c : tie.After-enum-told) → sound (first c .args .self) ≡ true
-rules c = and-left (sound (first c .args .self)) _ (passed c .0)
-
-long : (c : tie.After-enum-told) → longEnough (now (first c .args .arena)) ≡ true
-long c = and-right (sound (first c .args .self)) _ (passed c .0)
+-- what the call is admitted with
+first : (c : tie.After-admitted) → let z = start c .args in c .admitted .result ≡ admitted (usable (z .self) (now (z .arena))) (z .self .active) true
+first c = c .admitted .ensures ∙ ap (λ (u : Bool). admitted u (start c .args .self .active) true) (tells (c .before))
 
 checked-requires : tie.Need-checked-requires
 checked-requires c κs = search needs
@@ -58,29 +43,24 @@ usable-requires c κs = search needs
 admitted-requires : tie.Need-admitted-requires
 admitted-requires c κs = search needs
 
-enum-known-reply : tie.Need-enum-known-reply
-enum-known-reply c = search needs
+find-in-requires : tie.Need-find-in-requires
+find-in-requires c κs =
+    let z = start c .args in
+    let t = z .self in
+    λ done. let p = open-admitted (c .admitted .result) done (usable t (now (z .arena))) (t .active) (first c) in
+    (record { rest = restOf t; rules = and-left (sound t) _ (p .0); active = p .1 }, and-right (sound t) _ (p .0))
 
-enum-told : tie.Need-enum-told
-enum-told c = search needs
-
-seek-requires : tie.Need-seek-requires
-seek-requires c κs = (record { rest = restOf (first c .args .self); rules = rules c; active = passed c .1 }, long c)
+with-requires : tie.Need-with-requires
+with-requires c κs = search needs
 
 returns : tie.Need-returns
 returns c =
-    let a = began (c .before .before .before) in
-    finds _ _ _ _ _ (uses (begun (a .before .before)))
-    (find-refused _ _ _ _ _ _ _ (tells (a .before)) (c .before .reply .given .1) (a .admitted .ensures))
-
-returns-2 : tie.Need-returns-2
-returns-2 c =
-    let s = c .before in
-    let e = s .before in
-    let z = first e .args in
-    finds _ _ _ _ _ (uses (first e)) (s .seek .ensures (restOf (z .self)) ∙ find-open (z .self) _ _ _ (rules e) (long e) (passed e .1))
+    let s = c .before .before in
+    let a = s .before in
+    let t = start a .args .self in
+    finds t _ _ _ _ (uses (start a))
+    (ap (λ (x : Table). looked x (s .find-in .result .found)) (c .with .ensures) ∙ s .find-in .ensures (restOf t) (first a))
 
 pub find-spec : {M : Type 1} → statement M
 find-spec =
-    tie.close
-    (tie.spec checked-requires usable-requires admitted-requires enum-known-reply enum-told seek-requires returns returns-2)
+    tie.close (tie.spec checked-requires usable-requires admitted-requires find-in-requires with-requires returns)
