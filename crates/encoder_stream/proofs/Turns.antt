@@ -54,12 +54,13 @@ module _ {low : ℕ} {s : List ℕ} {x₀ x : Held} {at : ℕ} (g : Going low s 
       answered z q = ap (λ (t : Took Held). t .answer) (sym w) ∙ ap replied q
 
       -- a refusal leaves the entries and the arena
-      pub ends-refused : (r : Refusal) → y .reply ≡ Reply.Refused r → ends (holding (x .ring) b) at (refused r) ≡ whole low s x₀
+      pub ends-refused : (r : Refusal) → y .reply ≡ Reply.Refused r → ends (holding (y .ring) b) at (refused r) ≡ whole low s x₀
       ends-refused r q =
           let no = answered (Reply.Refused r) q in
           let same : holding (y .ring) b ≡ x = ap (λ (t : Took Held). t .state) w ∙ refused-stays low x (i .instruction) r no in
-          let bytes : b ≡ x .arena = ap (λ (t : Held). t .arena) same in
-          rw bytes (sym (run-refused instructionAt (applied low) s at x (g .fuel) h some-fuel i e r no) ∙ g .rest)
+          ap (λ (z : Held). ends z at (refused r)) same
+          ∙ sym (run-refused instructionAt (applied low) s at x (g .fuel) h some-fuel i e r no)
+          ∙ g .rest
 
       pub goes-on : y .reply ≡ Reply.Done → at < i .next → Going low s x₀ (holding (y .ring) b) (i .next)
       goes-on q past =

@@ -231,12 +231,12 @@ fn apply_all(mut ring: Ring, arena: &mut [u8], low: usize, s: &[u8]) -> Ran
             }
             InstructionRead::Whole { parsed, next } => {
                 let one = apply(ring, arena, low, s, parsed);
+                // a refusal leaves the entries as they are
+                ring = one.ring;
                 let reply = one.reply;
                 if let Reply::Refused(why) = reply {
                     return ended(ring, at, Reply::Refused(why));
                 }
-                let after = one.ring;
-                ring = after;
                 at = next;
             }
         }

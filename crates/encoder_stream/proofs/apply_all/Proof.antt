@@ -97,12 +97,12 @@ ended-requires-3 c κs = search needs
 
 same-length-3 : tie.Need-same-length-3 Inv-loop μ-loop
 same-length-3 c =
-    let call = c .before .before .before .before .before .before in
+    let call = c .before .before .before .before .before .before .before in
     call .apply .kept .1 .0 ∙ at-turn (call .before .before) .before .loop .inv .1
 
 returns-3 : tie.Need-returns-3 Inv-loop μ-loop
 returns-3 c =
-    let call = c .before .before .before .before .before .before in
+    let call = c .before .before .before .before .before .before .before in
     let told = call .before .before in
     let turn = at-turn told in
     rw (c .ended3 .ensures)
@@ -122,7 +122,7 @@ loop-again c =
     let told = call .before .before in
     let turn = at-turn told in (
       goes-on (turn .before .loop .inv .0) (turn .loop-test .taken) (whole-read told) (whole-is told) (call .apply .result) _ (call .apply .ensures)
-          (c .before .enum-told2 .given .1) (whole-lies told .1),
+          (c .enum-told2 .given .1) (whole-lies told .1),
       call .apply .kept .1 .0 ∙ turn .before .loop .inv .1,
     )
 
