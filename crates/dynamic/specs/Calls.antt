@@ -156,6 +156,7 @@ tableOf r b s o =
       section = s;
     }
 
+-- what a record has beside them
 abbrev pub restOf : Table → Rest
 restOf t = record { known = t .known; most = t .most; waiting = t .waiting; queue = t .queue; active = t .active }
 
@@ -376,6 +377,7 @@ pub record RoomOf (t : Table) (low : ℕ) (r : Room) (n v : List ℕ) : Type 0 w
   pub room : r ≡ roomFor (t .ring) low (length n) (length v)
   pub made : r .made ≡ true
 
+-- and the room that was made for a field in it
 pub record OpensFor (r : Ring) (b : ℕ) (s : Section) (low : ℕ) (m : Room) (n v : List ℕ) : Type 0 where
   pub opens : Opens r b s
   pub room : RoomOf (tableOf r b s (opens .rest)) low m n v
@@ -384,7 +386,7 @@ pub record OpensFor (r : Ring) (b : ℕ) (s : Section) (low : ℕ) (m : Room) (n
 abbrev pub bytesAfter : Table → Table → List ℕ → List ℕ → List ℕ → List ℕ
 bytesAfter t u a n v = cond (ltb (t .ring .inserted) (u .ring .inserted)) (ringWrite a (t .ring .head) (n ++ v)) a
 
--- by what the call is admitted with
+-- an insert, by what the call is admitted with
 abbrev pub insertFirst : Reply → Table → List ℕ → List ℕ → List ℕ → Inserting
 insertFirst (Reply.Refused w) t a n v = inserting t (Insert.Refused w)
 insertFirst Reply.Done t a n v = insertOpen t a n v
