@@ -83,6 +83,8 @@ int main(void) {
     TABLE("increment", qpack_increment(t, 1));
     TABLE("acknowledge", qpack_acknowledge(t, 4));
     TABLE("acknowledge, refused", qpack_acknowledge(t, 4));
+    t = qpack_commit(qpack_begin(t, 12).table, 0).table;
+    TABLE("cancel", qpack_cancel(t, 12));
     t = qpack_begin(t, 8).table;
     TABLE("begin, refused", qpack_begin(t, 8));
     TABLE("abandon", qpack_abandon(t));
