@@ -3,7 +3,7 @@ ghost use Rattle.std.specs.Prelude.{◌≡◌};
 ghost use Rattle.answers.specs.Answer.{number_of, ends_early};
 
 // The rows 1 to 26, in their order. Row 0 is no refusal: each answer's own enum has it, with its values.
-#[derive(Drop)]
+#[derive(Clone, Copy)]
 pub enum Refusal {
     UnexpectedEnd,
     Overflow,
@@ -75,21 +75,21 @@ pub fn ends_early(r: Refusal) -> bool
 }
 
 // What a writer did: the position past the bytes that it wrote, or a refusal, which leaves the buffer as it was.
-#[derive(Drop)]
+#[derive(Clone, Copy)]
 pub enum Written {
     Next(usize),
     Refused(Refusal),
 }
 
 // What a call that has nothing to give back answers.
-#[derive(Drop)]
+#[derive(Clone, Copy)]
 pub enum Reply {
     Done,
     Refused(Refusal),
 }
 
 // Where a search found a name or a field: in the static table, or in the dynamic one below the section's base or above it.
-#[derive(Drop)]
+#[derive(Clone, Copy)]
 pub enum Lookup {
     Static(usize),
     Relative { index: usize, absolute: usize },
@@ -98,7 +98,7 @@ pub enum Lookup {
 }
 
 // What an insertion did: how the new entry is written, or what names it where it was not made.
-#[derive(Drop)]
+#[derive(Clone, Copy)]
 pub enum Insertion {
     Inserted {
         postbase: usize,
@@ -123,14 +123,14 @@ pub enum Insertion {
 }
 
 // What a find answers.
-#[derive(Drop)]
+#[derive(Clone, Copy)]
 pub enum Find {
     Found(Lookup),
     Refused(Refusal),
 }
 
 // What an insert answers.
-#[derive(Drop)]
+#[derive(Clone, Copy)]
 pub enum Insert {
     Insertion(Insertion),
     Refused(Refusal),

@@ -16,7 +16,7 @@ use prefix_int::IntRead;
 use shapes::{IntTextRead, TextsRead};
 
 // A line: a whole field by its index, a name by its index and a value, or both strings; and the position past it.
-#[derive(Drop)]
+#[derive(Clone, Copy)]
 pub enum LineRead {
     Indexed {
         field: Reference,

@@ -7,7 +7,7 @@ use model::{BLOCKED_SECTIONS, BLOCKED_VALUES};
 
 // A largest reference, and how many blocked sections have it.
 #[repr(C)]
-#[derive(Drop)]
+#[derive(Clone, Copy)]
 pub struct Value {
     pub largest: usize,
     pub sections: usize,
@@ -15,7 +15,7 @@ pub struct Value {
 
 // The blocked sections: how many there are in all, and the first `distinct` values.
 #[repr(C)]
-#[derive(Drop)]
+#[derive(Clone, Copy)]
 pub struct Waiting {
     pub total: usize,
     pub distinct: usize,
@@ -23,7 +23,7 @@ pub struct Waiting {
 }
 
 // The blocked sections with one more, or as they were where a bound would be passed.
-#[derive(Drop)]
+#[derive(Clone, Copy)]
 pub struct Counted {
     pub fits: bool,
     pub waiting: Waiting,

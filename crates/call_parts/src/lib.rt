@@ -12,7 +12,7 @@ use ring::Push;
 use tracking::{Floor, Noted, Section};
 
 // Why a capacity is not set, whatever the table holds; or none of these.
-#[derive(Drop)]
+#[derive(Clone, Copy)]
 pub enum CapacityTest {
     Within,
     Refused(Refusal),

@@ -11,7 +11,7 @@ use ring::LARGEST_COUNT;
 use stream::IntegerRead;
 
 // A table, how many bytes were consumed, and the call's answer.
-#[derive(Drop)]
+#[derive(Clone, Copy)]
 pub struct Reported {
     pub table: Table,
     pub consumed: usize,
@@ -19,7 +19,7 @@ pub struct Reported {
 }
 
 // A report, and the position past it.
-#[derive(Drop)]
+#[derive(Clone, Copy)]
 pub enum ReportRead {
     // An acknowledgement, or a cancellation.
     Release {

@@ -22,7 +22,7 @@ use tracking::{Held, Noted, Queue, Section, Value, Waiting};
 
 // A table by value; its strings stand in the arena that a call is lent.
 #[repr(C)]
-#[derive(Drop)]
+#[derive(Clone, Copy)]
 pub struct Table {
     pub ring: Ring,
     // The known received count, and the blocked maximum.
@@ -37,42 +37,42 @@ pub struct Table {
 }
 
 // A table and a call's answer.
-#[derive(Drop)]
+#[derive(Clone, Copy)]
 pub struct Replied {
     pub table: Table,
     pub reply: Reply,
 }
 
 // A table and a find's answer.
-#[derive(Drop)]
+#[derive(Clone, Copy)]
 pub struct Looked {
     pub table: Table,
     pub found: Find,
 }
 
 // A table and an insert's answer.
-#[derive(Drop)]
+#[derive(Clone, Copy)]
 pub struct Inserting {
     pub table: Table,
     pub inserted: Insert,
 }
 
 // The entries after a call, and its answer.
-#[derive(Drop)]
+#[derive(Clone, Copy)]
 struct Ringed {
     ring: Ring,
     reply: Reply,
 }
 
 // A section's uses after a search, and the search's answer.
-#[derive(Drop)]
+#[derive(Clone, Copy)]
 struct Sought {
     section: Section,
     found: Find,
 }
 
 // The entries and a section's uses after an insert, and the insert's answer.
-#[derive(Drop)]
+#[derive(Clone, Copy)]
 struct Entered {
     ring: Ring,
     section: Section,
@@ -80,21 +80,21 @@ struct Entered {
 }
 
 // A queue after a report, and the report's answer.
-#[derive(Drop)]
+#[derive(Clone, Copy)]
 struct Report {
     queue: Queue,
     reply: Reply,
 }
 
 // What a check of a record finds: whether it keeps its rules, and the lowest entry that a section uses.
-#[derive(Drop)]
+#[derive(Clone, Copy)]
 pub struct Checked {
     pub sound: bool,
     pub low: usize,
 }
 
 // What names a new entry: an older one by its absolute index, or the static table.
-#[derive(Drop)]
+#[derive(Clone, Copy)]
 pub enum Origin {
     EqualEntry(usize),
     StaticName(usize),

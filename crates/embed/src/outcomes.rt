@@ -8,7 +8,7 @@ use dynamic::{Inserting, Looked, Replied, Table};
 
 // A table and a call's answer, 0 for done.
 #[repr(C)]
-#[derive(Drop)]
+#[derive(Clone, Copy)]
 pub struct Outcome {
     pub table: Table,
     pub answer: u8,
@@ -16,7 +16,7 @@ pub struct Outcome {
 
 // What a find or an insert found or made: its kind, and the values that the kind has; the others are 0.
 #[repr(C)]
-#[derive(Drop)]
+#[derive(Clone, Copy)]
 pub struct Named {
     pub index: usize,
     pub postbase: usize,
@@ -26,7 +26,7 @@ pub struct Named {
 
 // A table, and the answer of a find or an insert.
 #[repr(C)]
-#[derive(Drop)]
+#[derive(Clone, Copy)]
 pub struct NamedOutcome {
     pub table: Table,
     pub named: Named,
@@ -35,7 +35,7 @@ pub struct NamedOutcome {
 
 // A table, the bytes consumed, the total inserted, the bytes written, and the answer.
 #[repr(C)]
-#[derive(Drop)]
+#[derive(Clone, Copy)]
 pub struct EncoderOutcome {
     pub table: Table,
     pub consumed: usize,
@@ -46,7 +46,7 @@ pub struct EncoderOutcome {
 
 // A table, the bytes consumed, and the answer.
 #[repr(C)]
-#[derive(Drop)]
+#[derive(Clone, Copy)]
 pub struct DecoderOutcome {
     pub table: Table,
     pub consumed: usize,
@@ -55,7 +55,7 @@ pub struct DecoderOutcome {
 
 // How many records and bytes were stored, the size sum, whether the required count was above 0, and the answer.
 #[repr(C)]
-#[derive(Drop)]
+#[derive(Clone, Copy)]
 pub struct SectionOutcome {
     pub count: usize,
     pub used: usize,

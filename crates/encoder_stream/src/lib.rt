@@ -18,7 +18,7 @@ use static_table::StaticGot;
 use vas::{Located, VirtualAddressSpace};
 
 // A table, how many bytes were consumed, the total inserted, how many bytes were written, and the call's answer.
-#[derive(Drop)]
+#[derive(Clone, Copy)]
 pub struct Received {
     pub table: Table,
     pub consumed: usize,
@@ -28,14 +28,14 @@ pub struct Received {
 }
 
 // The entries after an instruction, and its answer.
-#[derive(Drop)]
+#[derive(Clone, Copy)]
 struct Applied {
     ring: Ring,
     reply: Reply,
 }
 
 // The entries after a call's instructions, how many bytes were consumed, and the answer.
-#[derive(Drop)]
+#[derive(Clone, Copy)]
 struct Ran {
     ring: Ring,
     consumed: usize,
@@ -43,7 +43,7 @@ struct Ran {
 }
 
 // How many bytes of an increment were written, and the call's answer.
-#[derive(Drop)]
+#[derive(Clone, Copy)]
 struct Finished {
     written: usize,
     reply: Reply,

@@ -15,7 +15,7 @@ use field::ESTIMATED_OVERHEAD_BYTES;
 pub const SLOTS: usize = 512;
 
 // How the oldest entries make room: whether they do, how many go, and the size and the tail that are then left.
-#[derive(Drop)]
+#[derive(Clone, Copy)]
 pub struct Room {
     pub made: bool,
     pub count: usize,
@@ -24,7 +24,7 @@ pub struct Room {
 }
 
 // The position of an entry among the live ones, the oldest at 0.
-#[derive(Drop)]
+#[derive(Clone, Copy)]
 pub enum Latest {
     At(usize),
     Nothing,

@@ -14,7 +14,7 @@ pub use line_entries::{EntryRead, Text, entry_on, entry_static, static_entry};
 use vas::VirtualAddressSpace;
 
 // A line's name and value, and the position past the line.
-#[derive(Drop)]
+#[derive(Clone, Copy)]
 pub enum FieldRead {
     Field {
         name: Text,

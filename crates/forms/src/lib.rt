@@ -3,7 +3,7 @@ ghost use Rattle.std.specs.Prelude.{◌≡◌, ◌<◌};
 ghost use Rattle.forms.specs.Forms.{form_of, row_of, head_of, encoder_kind, decoder_kind, line_kind};
 
 // The encoder's four instructions, 4.3.
-#[derive(Drop)]
+#[derive(Clone, Copy)]
 pub enum EncoderInstruction {
     Duplicate,
     DynamicTableSizeUpdate,
@@ -12,7 +12,7 @@ pub enum EncoderInstruction {
 }
 
 // The decoder's three instructions, 4.4.
-#[derive(Drop)]
+#[derive(Clone, Copy)]
 pub enum DecoderInstruction {
     InsertCountIncrement,
     StreamCancel,
@@ -20,7 +20,7 @@ pub enum DecoderInstruction {
 }
 
 // The five field lines, 4.5.
-#[derive(Drop)]
+#[derive(Clone, Copy)]
 pub enum HeaderBlockField {
     LiteralWithPostBaseNameRef,
     IndexedWithPostBase,
@@ -30,7 +30,7 @@ pub enum HeaderBlockField {
 }
 
 // What a first byte can begin.
-#[derive(Drop)]
+#[derive(Clone, Copy)]
 pub enum Kind {
     Encoder(EncoderInstruction),
     Decoder(DecoderInstruction),
@@ -38,7 +38,7 @@ pub enum Kind {
 }
 
 // A first byte of a kind has the pattern under the mask; its integer's prefix has width bits.
-#[derive(Drop)]
+#[derive(Clone, Copy)]
 pub struct Form {
     pub pattern: u8,
     pub mask: u8,
@@ -46,7 +46,7 @@ pub struct Form {
 }
 
 // The width of a first integer, and the flags above it.
-#[derive(Drop)]
+#[derive(Clone, Copy)]
 pub struct Head {
     pub width: u32,
     pub flags: u8,

@@ -10,7 +10,7 @@ use prefix_int::IntRead;
 use ring::LARGEST_COUNT;
 
 // A prefix that was read: the required insert count, the base, and the position past both.
-#[derive(Drop)]
+#[derive(Clone, Copy)]
 pub enum PrefixRead {
     Prefix {
         required: usize,
@@ -21,14 +21,14 @@ pub enum PrefixRead {
 }
 
 // A required insert count, where the encoded one gives any.
-#[derive(Drop)]
+#[derive(Clone, Copy)]
 struct Required {
     given: bool,
     count: usize,
 }
 
 // A base, or why there is none.
-#[derive(Drop)]
+#[derive(Clone, Copy)]
 enum BaseRead {
     Base(usize),
     Refused(Refusal),

@@ -13,7 +13,7 @@ use forms::{EncoderInstruction, Kind};
 use stream::{IntegerRead, LiteralRead, NameRefRead};
 
 // An instruction: its numbers, and where its strings stand.
-#[derive(Drop)]
+#[derive(Clone, Copy)]
 pub enum Parsed {
     Duplicate(usize),
     Capacity(usize),
@@ -32,7 +32,7 @@ pub enum Parsed {
 }
 
 // An instruction and the position past it.
-#[derive(Drop)]
+#[derive(Clone, Copy)]
 pub enum InstructionRead {
     Whole { parsed: Parsed, next: usize },
     Cut,

@@ -7,7 +7,7 @@ ghost use Rattle.int_writing.specs.Octets.{spell, encode, int_bytes, good_call, 
 use answers::{Refusal, Written};
 
 // How many bytes an integer takes.
-#[derive(Drop)]
+#[derive(Clone, Copy)]
 pub enum IntSize {
     Bytes(usize),
     Refused(Refusal),

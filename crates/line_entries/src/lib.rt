@@ -10,7 +10,7 @@ use static_table::StaticGot;
 use vas::{Located, VirtualAddressSpace};
 
 // Where a string stands: in the section, in the static table's bytes, or in the arena.
-#[derive(Drop)]
+#[derive(Clone, Copy)]
 pub enum Text {
     Input { start: usize, len: usize },
     Fixed { start: usize, len: usize },
@@ -18,7 +18,7 @@ pub enum Text {
 }
 
 // An entry's name and value.
-#[derive(Drop)]
+#[derive(Clone, Copy)]
 pub enum EntryRead {
     Entry { name: Text, value: Text },
     Refused(Refusal),

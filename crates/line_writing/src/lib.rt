@@ -7,7 +7,7 @@ use answers::Written;
 use forms::{Head, HeaderBlockField, Kind};
 
 // Which entry a line names.
-#[derive(Drop)]
+#[derive(Clone, Copy)]
 pub enum Reference {
     Static(u64),
     Relative(u64),

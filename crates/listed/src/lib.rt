@@ -10,7 +10,7 @@ use dynamic::Table;
 pub const RECORDS: usize = 1024;
 
 // A section's answer, and all the records: those that were not stored are as they were.
-#[derive(Drop)]
+#[derive(Clone, Copy)]
 pub struct Listed {
     pub decoded: Decoded,
     pub fields: [Field; RECORDS],

@@ -8,7 +8,7 @@ use answers::Refusal;
 pub use int_writing::{IntSize, call_ok, size, write};
 
 // What reading at a position finds.
-#[derive(Drop)]
+#[derive(Clone, Copy)]
 pub enum IntRead {
     // The bits above the prefix, the value, and the position past it.
     Int { flags: u8, value: u64, next: usize },

@@ -10,7 +10,7 @@ use text_writing::call_ok;
 pub use text_writing::{size, write};
 
 // What reading at a position finds.
-#[derive(Drop)]
+#[derive(Clone, Copy)]
 pub enum TextRead {
     // The bits above H, and the bytes from start on, len of them; next is past them.
     Text {

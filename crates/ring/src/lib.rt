@@ -17,7 +17,7 @@ pub const LARGEST_COUNT: usize = 4611686018427387903;
 
 // The entries of a table; their strings stand in the arena that a call is lent.
 #[repr(C)]
-#[derive(Drop)]
+#[derive(Clone, Copy)]
 pub struct Ring {
     // How many entries were ever inserted, and how many of these are gone.
     pub inserted: usize,
@@ -35,7 +35,7 @@ pub struct Ring {
 }
 
 // Where a new entry's strings come from: both handed in, or from the live entry at a position, its name alone or all of it.
-#[derive(Drop)]
+#[derive(Clone, Copy)]
 pub enum Source {
     Given,
     NameOf(usize),
@@ -43,7 +43,7 @@ pub enum Source {
 }
 
 // What a push did: only a push that is made changes anything.
-#[derive(Drop)]
+#[derive(Clone, Copy)]
 pub enum Push {
     Made,
     // Larger than the capacity.
@@ -57,21 +57,21 @@ pub enum Push {
 }
 
 // A ring after a push, and what the push did.
-#[derive(Drop)]
+#[derive(Clone, Copy)]
 pub struct Pushed {
     pub ring: Ring,
     pub push: Push,
 }
 
 // A ring after its capacity was set, or as it was where entries that may not go were in the way.
-#[derive(Drop)]
+#[derive(Clone, Copy)]
 pub struct Cut {
     pub made: bool,
     pub ring: Ring,
 }
 
 // Where an entry's bytes start, and how many its name and its value have.
-#[derive(Drop)]
+#[derive(Clone, Copy)]
 struct Stored {
     start: usize,
     name: usize,
@@ -79,7 +79,7 @@ struct Stored {
 }
 
 // What a push comes to: an answer that changes nothing, or the entry as it stands at its source and the room made for it.
-#[derive(Drop)]
+#[derive(Clone, Copy)]
 enum Plan {
     Refused(Push),
     Ready(Stored, Room),

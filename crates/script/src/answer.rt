@@ -56,7 +56,7 @@ pub const AT: usize = 29;
 pub const NOTHING: usize = 30;
 
 // An answer's number; a word before all, one before the first value and one before the third; and the values.
-#[derive(Drop)]
+#[derive(Clone, Copy)]
 pub struct Answer {
     pub number: u8,
     pub head: usize,

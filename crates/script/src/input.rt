@@ -45,7 +45,7 @@ pub const PAST_ARENA: u8 = 9;
 pub const PAST_FIELD: u8 = 10;
 
 // A command without its strings.
-#[derive(Drop)]
+#[derive(Clone, Copy)]
 pub struct Command {
     pub fault: u8,
     pub op: u8,
@@ -70,7 +70,7 @@ pub struct Command {
 }
 
 // The strings' lengths, where both were read.
-#[derive(Drop)]
+#[derive(Clone, Copy)]
 pub struct Texts {
     pub fault: u8,
     pub name: usize,

@@ -220,7 +220,7 @@ const SHAPES: [u16; OPCODES] = [
 ];
 
 // What a command has, if its opcode is known.
-#[derive(Drop)]
+#[derive(Clone, Copy)]
 pub struct Shape {
     pub known: bool,
     pub table: bool,

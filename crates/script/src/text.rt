@@ -8,7 +8,7 @@ use libc::STDOUT_FILENO;
 const ROOM: usize = 128;
 
 // What waits to be written: the first `at` bytes.
-#[derive(Drop)]
+#[derive(Clone, Copy)]
 pub struct Line {
     pub at: usize,
     pub bytes: [u8; ROOM],

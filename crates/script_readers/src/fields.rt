@@ -7,7 +7,7 @@ use script_leaves::kinds;
 use vas::VirtualAddressSpace;
 
 // Where a string stands: the word for it, its start and its length.
-#[derive(Drop)]
+#[derive(Clone, Copy)]
 struct Stands {
     word: usize,
     start: usize,

@@ -39,7 +39,7 @@ use header_prefix::PrefixRead;
 use vas::VirtualAddressSpace;
 
 // One decoded field: where its bytes start in the buffer, and how many its name and its value have.
-#[derive(Drop)]
+#[derive(Clone, Copy)]
 pub struct Field {
     pub start: usize,
     pub name: usize,
@@ -47,7 +47,7 @@ pub struct Field {
 }
 
 // Where a reader stands: whether the prefix was read and what it gave, the next byte, and what was stored so far.
-#[derive(Drop)]
+#[derive(Clone, Copy)]
 pub struct Cursor {
     pub started: bool,
     pub dynamic: bool,
@@ -59,7 +59,7 @@ pub struct Cursor {
 }
 
 // A section's answer: whether the required count was above 0, how many records and bytes were stored, and the size sum.
-#[derive(Drop)]
+#[derive(Clone, Copy)]
 pub struct Decoded {
     pub reply: Reply,
     pub dynamic: bool,
@@ -69,7 +69,7 @@ pub struct Decoded {
 }
 
 // What one step finds: the end, with the answer; or a field, with its record and where to go on.
-#[derive(Drop)]
+#[derive(Clone, Copy)]
 pub struct Line {
     pub done: bool,
     pub field: Field,
@@ -78,21 +78,21 @@ pub struct Line {
 }
 
 // A cursor past the prefix, or why there is none.
-#[derive(Drop)]
+#[derive(Clone, Copy)]
 pub enum Begun {
     At(Cursor),
     Refused(Refusal),
 }
 
 // The largest size sum of a section, if there is one.
-#[derive(Drop)]
+#[derive(Clone, Copy)]
 pub enum Limit {
     None,
     Most(usize),
 }
 
 // The largest size sum of the stateless reader.
-#[derive(Drop)]
+#[derive(Clone, Copy)]
 pub struct MaxSize {
     pub bytes: usize,
 }

@@ -10,7 +10,7 @@ use shape_writing::VALUE_WIDTH;
 pub use shape_writing::{write_int_text, write_texts};
 
 // An integer and the value that follows it.
-#[derive(Drop)]
+#[derive(Clone, Copy)]
 pub enum IntTextRead {
     IntText {
         flags: u8,
@@ -23,7 +23,7 @@ pub enum IntTextRead {
 }
 
 // A name and the value that follows it.
-#[derive(Drop)]
+#[derive(Clone, Copy)]
 pub enum TextsRead {
     Texts {
         flags: u8,

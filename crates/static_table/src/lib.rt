@@ -9,7 +9,7 @@ ghost use Rattle.static_table.specs.Static.{laid, no_field, got, found, entry_at
 use answers::{Refusal, Written};
 
 // Where an entry's bytes start, and how many its name and its value have: the value's follow the name's.
-#[derive(Drop)]
+#[derive(Clone, Copy)]
 pub enum StaticGot {
     Entry {
         start: usize,
@@ -20,7 +20,7 @@ pub enum StaticGot {
 }
 
 // The index that a search gives.
-#[derive(Drop)]
+#[derive(Clone, Copy)]
 pub enum StaticFound {
     At(usize),
     Nothing,

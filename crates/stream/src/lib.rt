@@ -17,7 +17,7 @@ use stream_parts::{kind_int, past_limit};
 pub use stream_parts::{write_integer, write_literal, write_name_ref};
 
 // An instruction that is one integer.
-#[derive(Drop)]
+#[derive(Clone, Copy)]
 pub enum IntegerRead {
     Integer { value: u64, next: usize },
     Cut,
@@ -25,7 +25,7 @@ pub enum IntegerRead {
 }
 
 // An insert with a name by its index, and where its value stands.
-#[derive(Drop)]
+#[derive(Clone, Copy)]
 pub enum NameRefRead {
     NameRef {
         is_static: bool,
@@ -39,7 +39,7 @@ pub enum NameRefRead {
 }
 
 // An insert with both strings, and where they stand.
-#[derive(Drop)]
+#[derive(Clone, Copy)]
 pub enum LiteralRead {
     Literal {
         name: usize,

@@ -9,7 +9,7 @@ use model::{ENTRY_USES, QUEUE_PLACES, SECTION_ENTRIES};
 
 // One entry's uses in a section: how far the entry lies above the section's first number, and how often it is used.
 #[repr(C)]
-#[derive(Drop)]
+#[derive(Clone, Copy)]
 pub struct Held {
     pub offset: u16,
     pub count: u16,
@@ -17,7 +17,7 @@ pub struct Held {
 
 // The entries that a section of a stream uses: the first `used` of the uses.
 #[repr(C)]
-#[derive(Drop)]
+#[derive(Clone, Copy)]
 pub struct Section {
     pub stream: u64,
     pub from: usize,
@@ -26,7 +26,7 @@ pub struct Section {
 }
 
 // A section's uses with one more, or as they were where a bound would be passed.
-#[derive(Drop)]
+#[derive(Clone, Copy)]
 pub struct Noted {
     pub fits: bool,
     pub used: usize,
@@ -34,7 +34,7 @@ pub struct Noted {
 }
 
 // Whether every use is of a live entry, and the lowest entry that is used.
-#[derive(Drop)]
+#[derive(Clone, Copy)]
 pub struct Floor {
     pub live: bool,
     pub low: usize,
@@ -42,14 +42,14 @@ pub struct Floor {
 
 // The committed sections, oldest first: the first `queued` places.
 #[repr(C)]
-#[derive(Drop)]
+#[derive(Clone, Copy)]
 pub struct Queue {
     pub queued: usize,
     pub places: [Section; QUEUE_PLACES],
 }
 
 // The queue after a step, and whether the step was made.
-#[derive(Drop)]
+#[derive(Clone, Copy)]
 pub struct Queued {
     pub made: bool,
     pub queue: Queue,

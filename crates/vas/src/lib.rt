@@ -5,14 +5,14 @@ ghost use Rattle.vas.specs.Vas.{located, relative_at, base_relative_at, post_bas
 use answers::Refusal;
 
 // How many entries were inserted and how many of them dropped: the live ones are absolute dropped + 1 to inserted.
-#[derive(Drop)]
+#[derive(Clone, Copy)]
 pub struct VirtualAddressSpace {
     pub inserted: usize,
     pub dropped: usize,
 }
 
 // A position among the live entries, or an absolute index; or a refusal.
-#[derive(Drop)]
+#[derive(Clone, Copy)]
 pub enum Located {
     At(usize),
     Refused(Refusal),

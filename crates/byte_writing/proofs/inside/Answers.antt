@@ -4,18 +4,14 @@ use Prim.Native.Nat.{◌+◌}
 use native.Mathlib.Omega.{arith}
 use borrow.Author.Tests.{lt-leb}
 use Rattle.byte_writing.proofs.Stretch.{ends_inside}
-use Rattle.byte_writing.proofs.inside.Statement.{statement}
-use Rattle.byte_writing.proofs.inside.Tie as tie
+use Rattle.byte_writing.proofs.inside.Goals as goal
 
-returns : tie.Need-returns
-returns c =
-    let a = c.before.args in
+pub returns-then-size-len : goal.returns-then-size-len
+returns-then-size-len c =
+    let a = c.args in
     sym (lt-leb (a.start + a.len) a.size (omega arith))
 
-returns-2 : tie.Need-returns-2
-returns-2 c =
-    let a = c.before.args in
+pub returns : goal.returns
+returns c =
+    let a = c.args in
     ends_inside a.size a.start a.len (omega arith)
-
-pub inside_spec : {M : Type 1} → statement M
-inside_spec = tie.close (tie.spec returns returns-2)
