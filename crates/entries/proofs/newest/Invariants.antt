@@ -1,0 +1,13 @@
+-- `entries::newest`: a short arena has no entry; in a long one the loop keeps `Searching`. Assumes nothing.
+use mathlib.Core.Path.{sym}
+use native.Mathlib.Omega.{arith}
+use borrow.Author.Tests.{le-leb, lt-leb}
+use Rattle.entries.proofs.Searching.{Searching, start, over, other_name, other, found}
+use Rattle.entries.proofs.newest.Given as goal
+
+abbrev pub invariant-loop-k : goal.invariant-loop-k
+invariant-loop-k l =
+    Searching l.arena l.starts l.names l.values l.dropped l.inserted l.name l.value l.whole l.k
+
+abbrev pub decreases-loop-k : goal.decreases-loop-k
+decreases-loop-k l = l.k

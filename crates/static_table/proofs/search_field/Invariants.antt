@@ -1,0 +1,19 @@
+-- `static_table::search_field`. The invariant: the search from here on gives what the whole one gives. Assumes nothing.
+use mathlib.Core.Path.{◌≡◌, refl, sym, ◌∙◌}
+use Prim.Native.Nat.{◌-◌, ◌≤◌}
+use native.Mathlib.Omega.{arith}
+use lib.ListN.{drop}
+use borrow.Author.Rules.{rules}
+use Rattle.field.specs.Field.{Field, equal}
+use Rattle.static_table.specs.AppendixA.{appendix_a}
+use Rattle.static_table.specs.Static.{lowest, lowest_field}
+use Rattle.static_table.proofs.Lowest.{failed, passed, over}
+use Rattle.static_table.proofs.search_field.Given as goal
+
+abbrev pub invariant-loop-index : goal.invariant-loop-index
+invariant-loop-index l =
+    (l.index ≤ 99)
+    × (lowest (equal (record { l.name = l.name; l.value = l.value })) l.index (drop l.index appendix_a) ≡ lowest_field l.name l.value)
+
+abbrev pub decreases-loop-index : goal.decreases-loop-index
+decreases-loop-index l = 99 - l.index
