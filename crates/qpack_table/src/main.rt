@@ -10,8 +10,13 @@ use dynamic::Table;
 use encoder_stream::{INCREMENT_ROOM, Received};
 use entries::SLOTS;
 use field::ESTIMATED_OVERHEAD_BYTES;
-use libc::{STDIN_FILENO, STDOUT_FILENO};
+
 use ring::Ring;
+
+// Where the stream comes from, and where the report goes.
+const STDIN: i32 = 0;
+
+const STDOUT: i32 = 1;
 
 // How many digits a number has at most.
 const MOST_DIGITS: usize = 20;
@@ -130,7 +135,7 @@ fn say(ring: Ring, consumed: usize, reply: Reply)
 {
     let mut out = io::large_buffer();
     let n = put_report(&mut out, ring, consumed, reply);
-    io::write_all(STDOUT_FILENO, &out[..n]);
+    io::write_all(STDOUT, &out[..n]);
 }
 
 // Applies a stream to a fresh table.
@@ -144,9 +149,9 @@ fn run(s: &[u8]) -> Received
 
 fn main() {
     let mut input = io::large_buffer();
-    let n = io::read_full(STDIN_FILENO, &mut input);
+    let n = io::read_full(STDIN, &mut input);
     let mut more = [0; 1];
-    let extra = io::read_full(STDIN_FILENO, &mut more);
+    let extra = io::read_full(STDIN, &mut more);
     if 0 < extra {
         say(Table::fresh().ring, 0, Reply::Refused(Refusal::BadCall));
         return;

@@ -1,7 +1,9 @@
 // A command from standard input: its opcode, its table, its numbers and its strings.
 use crate::opcodes::Shape;
 use crate::{opcodes, text};
-use libc::STDIN_FILENO;
+
+// Where a script comes from.
+const STDIN: i32 = 0;
 
 // How many bytes an arena has.
 pub const ARENA: usize = 16640;
@@ -104,7 +106,7 @@ fn read(buf: &mut [u8], len: usize) -> bool {
         return true;
     }
     let n = text::within(len, buf);
-    let got = io::read_full(STDIN_FILENO, &mut buf[..n]);
+    let got = io::read_full(STDIN, &mut buf[..n]);
     got == len
 }
 
@@ -219,7 +221,7 @@ fn numbered(op: u8, table: u8, shape: Shape) -> Command {
 // The next command.
 pub fn next() -> Command {
     let mut head = [0; 2];
-    let got = io::read_full(STDIN_FILENO, &mut head);
+    let got = io::read_full(STDIN, &mut head);
     if got == 0 {
         return failed(NO_MORE);
     }
