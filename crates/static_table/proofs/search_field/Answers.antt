@@ -17,20 +17,17 @@ loop-index-init c = (search rules, refl)
 pub returns-then-field_is : goal.returns-then-field_is
 returns-then-field_is c =
     let L = c.loop-index in
-    let s = c.before.before.before.before.before.before.before.before in
-    let f : Field = record { name = s.args.name.now; value = s.args.value.now } in
+    let f : Field = record { name = c.args.name.now; value = c.args.value.now } in
     passed (equal f) L.index (omega arith) (sym c.field_is.ensures ∙ c.if-field_is.true) ∙ L.invariant.1
 
 pub loop-index-preserved : goal.loop-index-preserved
 loop-index-preserved c =
     let L = c.loop-index in
-    let s = c.before.before.before.before.before.before.before.before in
-    let f : Field = record { name = s.args.name.now; value = s.args.value.now } in
+    let f : Field = record { name = c.args.name.now; value = c.args.value.now } in
     (search rules, failed (equal f) L.index (omega arith) (sym c.field_is.ensures ∙ c.if-field_is.false) ∙ L.invariant.1)
 
 pub returns : goal.returns
 returns c =
     let L = c.loop-index in
-    let s = c.before.before.before.before.before.before in
-    let f : Field = record { name = s.args.name.now; value = s.args.value.now } in
+    let f : Field = record { name = c.args.name.now; value = c.args.value.now } in
     over (equal f) L.index (omega arith) ∙ L.invariant.1

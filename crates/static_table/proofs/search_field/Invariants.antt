@@ -13,7 +13,7 @@ use Rattle.static_table.proofs.search_field.Given as goal
 abbrev pub invariant-loop-index : goal.invariant-loop-index
 invariant-loop-index l =
     (l.index ≤ 99)
-    × (lowest (equal (record { l.name = l.name; l.value = l.value })) l.index (drop l.index appendix_a) ≡ lowest_field l.name l.value)
+    × (lowest (equal (record { name = l.name; value = l.value })) l.index (drop l.index appendix_a) ≡ lowest_field l.name l.value)
 
 abbrev pub decreases-loop-index : goal.decreases-loop-index
 decreases-loop-index l = 99 - l.index

@@ -7,42 +7,34 @@ use Rattle.answers.proofs.Write.{writes_refused, writes_full, writes_next}
 use Rattle.prefix_int.specs.Integer.{int_size}
 use Rattle.int_writing.proofs.Writers.{unsized}
 use Rattle.text_writing.proofs.Laws.{TextOf, text_of, text_size_lem}
-use Rattle.text_writing.proofs.write.Lts
-use Rattle.text_writing.proofs.write.Reads
-use Rattle.text_writing.proofs.write.Tie
+use Rattle.text_writing.proofs.write.Goals.{In-Bytes}
 use Rattle.text_writing.proofs.write.Goals as goal
 
-abbrev In-Bytes-2 : Type 0
-In-Bytes-2 = Lts.After-sized Tie.the-claims Reads.Pre Reads.Post
-
 -- the bytes to write, and how many
-text : (c : In-Bytes-2)
+text : (c : In-Bytes)
     → let a = c.args in
-    TextOf a.width a.flags a.text.now c.sized-1.given.0.0
+    TextOf a.width a.flags a.text.now c.in-Bytes.n
 text c =
-    let s = c.before.before.before.before.before in
-    let size = sym c.size-sized.ensures ∙ ap int_size c.sized-1.given.1 in
-    text_of s.args.width s.args.flags s.args.text.now (omega (arith, s.well_formed)) _ size
+    let size = sym c.size-sized.ensures ∙ ap int_size c.in-Bytes.is in
+    text_of c.args.width c.args.flags c.args.text.now (omega (arith, c.well_formed)) _ size
 
 pub returns-then-buf-n : goal.returns-then-buf-n
-returns-then-buf-n c = let t = text c.before.before.before in writes_full _ _ _ _ t.given (omega (arith, t.many))
+returns-then-buf-n c = let t = text (goal.at.returns-then-buf-n c).In-Bytes in writes_full _ _ _ _ t.given (omega (arith, t.many))
 
 pub returns-then-buf-n-2 : goal.returns-then-buf-n-2
-returns-then-buf-n-2 c = let t = text c.before.before.before.before in writes_full _ _ _ _ t.given (omega (arith, t.many))
+returns-then-buf-n-2 c = let t = text (goal.at.returns-then-buf-n-2 c).In-Bytes in writes_full _ _ _ _ t.given (omega (arith, t.many))
 
 pub store-requires : goal.store-requires
-store-requires c = let t = text c.before.before.before.before.before in (t.good, omega (arith, t.many))
+store-requires c = let t = text (goal.at.store-requires c).In-Bytes in (t.good, omega (arith, t.many))
 
 pub returns-else-buf-n-2 : goal.returns-else-buf-n-2
 returns-else-buf-n-2 c =
-    let t = text c.before.before.before.before.before.before.before.before in
+    let t = text (goal.at.returns-else-buf-n-2 c).In-Bytes in
     let a = c.args in
     writes_next _ _ _ _ t.given _ _ (omega (arith, t.many)) (ap (◌+◌ a.at) (sym t.many)) c.store.ensures
 
 pub returns-in-Refused : goal.returns-in-Refused
 returns-in-Refused c =
-    let z = c.before.before.before.before in
-    let s = z.before.before.before in
-    let a = s.args in
-    let size = text_size_lem a.width a.flags a.text.now (omega (arith, s.well_formed)) in
-    writes_refused _ _ _ _ (unsized _ _ (sym size ∙ sym z.size-sized.ensures ∙ ap int_size c.sized-in-Refused-1.given.1))
+    let a = c.args in
+    let size = text_size_lem a.width a.flags a.text.now (omega (arith, c.well_formed)) in
+    writes_refused _ _ _ _ (unsized _ _ (sym size ∙ sym c.size-sized.ensures ∙ ap int_size c.in-Refused.is))

@@ -1,0 +1,13 @@
+-- `script::text::kept`: the count stays within the bytes. Assumes nothing.
+use mathlib.Core.Path.{sym}
+use lib.Seq.{length-take-le}
+use borrow.Author.Rules.{rules}
+use Prim.Native.Nat.{◌≤◌}
+use lib.ListN.{length}
+use Rattle.script.proofs.text.kept.Given as goal
+
+abbrev pub invariant-loop-n : goal.invariant-loop-n
+invariant-loop-n l = (l.n ≤ length l.s)
+
+abbrev pub decreases-loop-n : goal.decreases-loop-n
+decreases-loop-n l = l.n
