@@ -6,8 +6,7 @@ use native.Mathlib.Omega.{arith}
 use lib.Dec.{leb}
 use borrow.Author.Tests.{leb-true, leb-false, le-leb, lt-leb}
 use Rattle.field.specs.Field.{overhead}
-use Rattle.ring.proofs.fits.Statement.{statement}
-use Rattle.ring.proofs.fits.Tie as tie
+use Rattle.ring.proofs.fits.Goals as goal
 
 same_test : (c n v : ℕ) → overhead ≤ c → n ≤ c - overhead → leb v (c - overhead - n) ≡ leb (n + v + overhead) c
 same_test c n v h g = go (leb v (c - overhead - n)) refl
@@ -16,18 +15,15 @@ same_test c n v h g = go (leb v (c - overhead - n)) refl
     go true p = sym (le-leb (n + v + overhead) c (omega (arith, leb-true v _ p)))
     go false p = sym (lt-leb (n + v + overhead) c (omega (arith, leb-false v _ p)))
 
-returns : tie.Need-returns
-returns c =
-    let g = c.before.args in
+pub returns-then-capacity-lt-ESTIMATED_OVERHEAD_BYTES : goal.returns-then-capacity-lt-ESTIMATED_OVERHEAD_BYTES
+returns-then-capacity-lt-ESTIMATED_OVERHEAD_BYTES c =
+    let g = c.args in
     sym (lt-leb (g.name + g.value + overhead) g.capacity (omega arith))
 
-returns-2 : tie.Need-returns-2
-returns-2 c =
-    let g = c.before.before.args in
+pub returns-then-most-name : goal.returns-then-most-name
+returns-then-most-name c =
+    let g = c.args in
     sym (lt-leb (g.name + g.value + overhead) g.capacity (omega arith))
 
-returns-3 : tie.Need-returns-3
-returns-3 c = same_test _ _ _ c.before.if1.false c.if2.false
-
-pub fits_spec : {M : Type 1} → statement M
-fits_spec = tie.close (tie.spec returns returns-2 returns-3)
+pub returns : goal.returns
+returns c = same_test _ _ _ c.if-capacity-lt-ESTIMATED_OVERHEAD_BYTES.false c.if-most-name.false
