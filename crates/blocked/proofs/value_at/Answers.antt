@@ -1,0 +1,38 @@
+-- `blocked::value_at`: the loop keeps `Searching`. Assumes nothing.
+use mathlib.Core.Path.{◌≡◌}
+use Prim.Native.Nat.{◌-◌}
+use native.Mathlib.Omega.{arith}
+use lib.ListN.{length, length-map}
+use Rattle.blocked.proofs.Searching.{Searching, not_yet, here, not_here, nowhere}
+use Rattle.blocked.specs.declared.Value.{Value}
+use Rattle.blocked.proofs.value_at.Goals.{Start}
+use Rattle.blocked.proofs.value_at.Goals as goal
+
+long : (z : Start) → length z.args.waiting.values ≡ 64
+long z = z.well_formed.0.1.1.1.1.0.1.0.1
+
+pub loop-i-init : goal.loop-i-init
+loop-i-init c = not_yet _ _ _ _ (omega (arith, long (goal.at.loop-i-init c).Start))
+
+pub offset_bounds-waiting-i : goal.offset_bounds-waiting-i
+offset_bounds-waiting-i c = omega arith
+
+pub bounds-waiting-i : goal.bounds-waiting-i
+bounds-waiting-i c = omega arith
+
+pub returns-then-value-largest : goal.returns-then-value-largest
+returns-then-value-largest c =
+    here _ _ _ _ _ c.loop-i.invariant _ c.loop-i-test.true c.if-value-largest.true
+
+pub overflow_add-i : goal.overflow_add-i
+overflow_add-i c = omega arith
+
+pub loop-i-smaller : goal.loop-i-smaller
+loop-i-smaller c = omega arith
+
+pub loop-i-preserved : goal.loop-i-preserved
+loop-i-preserved c =
+    not_here _ _ _ _ _ c.loop-i.invariant _ c.loop-i-test.true c.if-value-largest.false
+
+pub returns : goal.returns
+returns c = nowhere _ _ _ _ _ c.loop-i.invariant c.loop-i-test.false
