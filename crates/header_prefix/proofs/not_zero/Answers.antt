@@ -3,15 +3,11 @@ use mathlib.Core.Path.{◌≡◌, refl}
 use mathlib.Core.Bool.{Bool, true, false, not, cond}
 use mathlib.Core.Option.{some, none}
 use lib.Dec.{eqb}
-use Rattle.header_prefix.proofs.not_zero.Statement.{statement}
-use Rattle.header_prefix.proofs.not_zero.Tie as tie
+use Rattle.header_prefix.proofs.not_zero.Goals as goal
 
-returns : tie.Need-returns
+pub returns : goal.returns
 returns c = go (eqb c.args.count 0)
   where
     go : (b : Bool) → cond (not b) (some c.args.count) none ≡ cond b none (some c.args.count)
     go true = refl
     go false = refl
-
-pub not_zero_spec : {M : Type 1} → statement M
-not_zero_spec = tie.close (tie.spec returns)
