@@ -1,5 +1,5 @@
 -- What the rule of live uses and the lowest used entry say, for a section and for the queue. Assumes nothing.
-use mathlib.Core.Path.{◌≡◌, refl, ◌∙◌}
+use mathlib.Core.Path.{◌≡◌, refl, sym, subst, ◌∙◌}
 use mathlib.Core.Bool.{Bool, true, false, cond}
 use mathlib.Core.List.{List, [], ◌∷◌, map}
 use mathlib.Core.Logic.{◌⊎◌, inl, inr, ⊎_elim}
@@ -73,7 +73,7 @@ lowest_is_used d i low (u ∷ us) h =
     go true q e = inl (omega (arith, leb-true low u.entry q))
     go false q e =
         let z : least ≡ u.entry = omega (arith, leb-false low u.entry q) in
-        inr (rw z (first_used d i u us (and_left (is_live_use d i u) _ h)))
+        inr (subst (λ (x : ℕ). 0 < uses_in x (u ∷ us)) (sym z) (first_used d i u us (and_left (is_live_use d i u) _ h)))
 
 -- entries that no use is of may be dropped, and more may be inserted
 module _ (d i d' i' : ℕ) (more : i ≤ i') where
