@@ -1,0 +1,16 @@
+-- `encoder_stream::insert_named`: the live entry that the index names, or why there is none. Assumes nothing.
+use mathlib.Core.Path.{sym, ap, ◌∙◌}
+use Rattle.vas.specs.Vas.{located}
+use Rattle.encoder_stream.proofs.Applying.{named_unnamed, named_pushed}
+use borrow.Author.Rules.{rules}
+use Rattle.encoder_stream.proofs.insert_named.Goals as goal
+
+pub returns-in-Refused : goal.returns-in-Refused
+returns-in-Refused c =
+    let a = c.args in
+    rw c.refused.ensures (named_unnamed a.low a.ring a.arena.now a.index a.value.now _ (sym c.locate-at.ensures ∙ ap located c.in-Refused.is))
+
+pub returns-in-At : goal.returns-in-At
+returns-in-At c =
+    let a = c.args in
+    c.push.ensures ∙ named_pushed a.low a.ring a.arena.now a.index a.value.now _ (sym c.locate-at.ensures ∙ ap located c.in-At.is)

@@ -1,0 +1,9 @@
+-- `encoder_stream::push`: what the ring's push did. Assumes nothing.
+use Rattle.encoder_stream.proofs.Applying.{pushed_by_lem}
+use borrow.Author.Rules.{rules}
+use Rattle.encoder_stream.proofs.push.Goals as goal
+
+pub returns : goal.returns
+returns c =
+    let a = c.args in
+    pushed_by_lem a.ring a.arena.now _ a.low a.source a.name.now a.value.now c.push-p.result c.push-p.ensures _ c.push_reply.ensures
