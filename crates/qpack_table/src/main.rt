@@ -10,7 +10,6 @@ use dynamic::Table;
 use encoder_stream::{INCREMENT_ROOM, Received};
 use entries::SLOTS;
 use field::ESTIMATED_OVERHEAD_BYTES;
-
 use ring::Ring;
 
 // Where the stream comes from, and where the report goes.
