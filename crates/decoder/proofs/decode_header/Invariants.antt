@@ -1,0 +1,17 @@
+-- `decoder::decode_header`: each turn stores a field, or ends the section. Assumes nothing.
+use mathlib.Core.Path.{◌≡◌}
+use Prim.Native.Nat.{◌-◌}
+use lib.ListN.{length}
+use Rattle.decoder.specs.Section.{on_table}
+use Rattle.section_steps.specs.declared.Field.{Field}
+use Rattle.decoder.proofs.Turns.{Stands}
+use Rattle.decoder.proofs.decode_header.Given as goal
+
+abbrev pub invariant-loop-table : goal.invariant-loop-table
+invariant-loop-table l =
+    Stands (λ (f : Field). f) (on_table l.table l.arena) l.s l.initial.fields l.initial.out l.room l.c l.fields l.out
+    × (length l.fields ≡ length l.initial.fields)
+    × (length l.out ≡ length l.initial.out)
+
+abbrev pub decreases-loop-table : goal.decreases-loop-table
+decreases-loop-table l = length l.s - l.c.at
