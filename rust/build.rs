@@ -1,4 +1,4 @@
-//! Links libembed.a, which `rt staticlib embed` makes. QPACK_TABLE_LIB names its folder where it is another one.
+//! Links libembed.a, which `tests/archive.sh` makes. QPACK_TABLE_LIB names its folder where it is another one.
 use std::{env, path::PathBuf};
 
 fn main() {
@@ -16,7 +16,7 @@ fn main() {
     let archive = folder.join("libembed.a");
     assert!(
         archive.is_file(),
-        "{} is missing: run `rt staticlib embed`",
+        "{} is missing: run `tests/archive.sh`",
         archive.display()
     );
     println!("cargo:rerun-if-changed={}", archive.display());

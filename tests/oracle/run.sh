@@ -29,7 +29,7 @@ if [ ! -x "target/oracle/differ-$build" ] || [ -n "$(find tests/oracle -name '*.
 fi
 differ=target/oracle/differ-$build
 [ "$1" != differences ] || exec "$differ" differences
-[ -x target/bin/replay ] || rt check replay >&2 || fail "the program replay is not proved"
+tests/program.sh replay >&2 || fail "the program replay is not proved"
 [ "$1" != wrong ] || exec python3 tests/oracle/wrong.py "$differ"
 if [ "$1" = lists ]; then
     for list in documents differences oracle; do

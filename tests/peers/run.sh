@@ -1,10 +1,10 @@
 #!/usr/bin/env bash
 # run.sh [SEED [SECTIONS]]: nghttp3 and this library read each other's encoder streams, sections and reports.
-# Installs libnghttp3-dev from Debian's packages; target/bin/replay is there after `rt check replay`.
+# Installs libnghttp3-dev from Debian's packages, and builds the program replay.
 set -euo pipefail
 cd "$(dirname "$0")/../.."
 fail() { echo "run.sh: $*" >&2; exit 2; }
-[ -x target/bin/replay ] || fail "target/bin/replay is not there: run 'rt check replay' first"
+tests/program.sh replay >&2 || fail "the program replay is not proved"
 archive() { dpkg -L libnghttp3-dev 2>/dev/null | grep '/libnghttp3\.a$' || true; }
 if [ -z "$(archive)" ]; then
     { apt-get update && apt-get install -y --no-install-recommends gcc libnghttp3-dev; } >/dev/null 2>&1 ||

@@ -1,4 +1,6 @@
 // What the desk answers: the refusals of document 01 by name, and each name's number.
+#![tactic(auto)]
+
 ghost use Rattle.std.specs.Prelude.{◌≡◌};
 ghost use Rattle.answers.specs.Answer.{number_of, ends_early};
 

@@ -1,4 +1,6 @@
 // Strings in the lent arena: a ring of its first RING bytes, in which a string that reaches the end goes on at the front.
+#![tactic(auto)]
+
 ghost use Rattle.std.specs.Prelude.{◌≡◌, false, cond, length};
 ghost use Rattle.answers.specs.Write.{Writes};
 ghost use Rattle.field.specs.Field.{same};

@@ -1,4 +1,6 @@
 // The five field lines, RFC 9204 4.5, each read and written by itself.
+#![tactic(auto)]
+
 ghost use Rattle.std.specs.Prelude.{◌≡◌};
 ghost use Rattle.block.specs.Lines.{
   reference_of,

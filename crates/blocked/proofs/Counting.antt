@@ -1,4 +1,4 @@
--- What the loop of `sums` keeps, and `keepsCount` by its cases. Assumes nothing.
+-- What the loop of `sums` keeps, and `keeps_count` by its cases. Assumes nothing.
 use mathlib.Core.Path.{◌≡◌, refl, sym, ◌∙◌}
 use mathlib.Core.Bool.{Bool, true, false, and-true, and-false}
 use mathlib.Core.List.{List}

@@ -1,4 +1,6 @@
 // The blocked sections, by their largest reference.
+#![tactic(auto)]
+
 ghost use Rattle.std.specs.Prelude.{◌≡◌, true, ◌<◌, ◌≤◌, eqb};
 ghost use Rattle.model.specs.Bounds.{blocked_values, blocked_sections};
 ghost use Rattle.blocked.specs.Waiting.{value_at, values_of, sum_of, keeps_count, blocking, let_go};

@@ -1,4 +1,6 @@
 // A stretch of bytes, copied into a buffer: one loop for the writers of strings, of static entries, of sections and of the report.
+#![tactic(auto)]
+
 ghost use Rattle.std.specs.Prelude.{◌≡◌, ◌+◌, ◌≤◌, leb, length, take, drop};
 ghost use Rattle.std.proofs.lemmas.List.Edits.{sets};
 ghost use Rattle.answers.specs.Write.{Writes};

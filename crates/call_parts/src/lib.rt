@@ -1,4 +1,6 @@
 // What the calls on a dynamic table are made of, over its parts: no call hands the whole record here.
+#![tactic(auto)]
+
 ghost use Rattle.std.specs.Prelude.{◌≡◌};
 ghost use Rattle.model.specs.Section.{lookup_of};
 ghost use Rattle.call_parts.specs.Parts.{tested, capacity_answer, push_reply, open_floor, counted_with, with_uses};

@@ -1,4 +1,6 @@
 // Sections, RFC 9204 4.5: read on a table, or with none, into a lent list of records and a lent buffer.
+#![tactic(auto)]
+
 ghost use Rattle.std.specs.Prelude.{◌≡◌};
 ghost use Rattle.answers.specs.declared.Reply.{Reply};
 ghost use Rattle.decoder.specs.Section.{on_table, stateless, start, ended_of, section_of, read_all, numbers};

@@ -1,4 +1,6 @@
 // A call on the decoder stream, RFC 9204 4.4: the peer's reports, read and applied in their order.
+#![tactic(auto)]
+
 ghost use Rattle.std.specs.Prelude.{◌≡◌, true, false, ◌+◌, ◌<◌};
 ghost use Rattle.dynamic.specs.Record.{sound};
 ghost use Rattle.running.specs.Run.{run_all};

@@ -6,32 +6,32 @@
 --
 -- | call | promise | law |
 -- |---|---|---|
--- | Table: set_capacity, set_max_blocked, begin, commit, abandon, acknowledge, cancel, increment | Keeps | one-keeps |
--- | Table: put, find, insert | Puts, Finds, Inserts | one-put, one-find, one-insert |
--- | on_encoder_recv | Receives (encoder_stream) | one-encoder-call |
--- | on_decoder_recv | Receives (decoder_stream) | one-decoder-call |
--- | decode_header, decode_stateless, read_on, read_stateless (decoder) | sectionOf r fields out ≡ readAll .. | one-section |
--- | decode_header_listed, decode_stateless_listed (listed) | Lists | one-listed |
--- | next_on, next_stateless, line_on (section_steps) | r ≡ lineOf .. or lineIn .., out ≡ outOf .. or outIn .. | one-step |
--- | begin_on (section_steps) | begunBy r ≡ .. | one-begun (Meanings) |
--- | every writer: prefix_int, prefix_string, shapes, stream, block; byte_writing::write, static_table::copy, arena::copy | Writes | one-write |
--- | Ring: push | Pushes | one-push |
--- | prefix_int: read, size; stream_parts: kind_int; prefix_string: read, size | intRead, textRead, intSize r ≡ .. | one-int, one-text, one-size (Meanings) |
--- | shapes: text_after, texts | intTextRead, textsRead r ≡ .. | one-int-text, one-texts (Meanings) |
--- | static_table: get, find, find_name | got, found r ≡ .. | one-got, one-found (Meanings) |
--- | VirtualAddressSpace: relative, relative_base, post_base, index | located r ≡ .. | one-located (Meanings) |
--- | stream: read_integer, read_name_ref, read_literal | integerRead, nameRefRead, literalRead r ≡ .. | one-integer, one-name-ref, one-literal (Meanings) |
--- | block: read_line | lineRead r ≡ .. | one-line (Meanings) |
--- | header_prefix: read_prefix | prefixRead r ≡ .. | one-prefix (Meanings) |
--- | decoder_stream: read_report | reportRead r ≡ .. | one-report (Meanings) |
--- | entries, Ring: newest | latest r ≡ .. | one-latest (Meanings) |
--- | dynamic: capacity_test | tested r ≡ .. | one-capacity-test (Meanings) |
--- | entries: fewest | r ≡ .., for every array of starts | one-room |
--- | arena: write, move_bytes | the arena after ≡ .. | one-exact |
--- | section_steps: begin; Table: fresh, checked; dynamic: push_reply; Ring: sound, room, cut; all of tracking and forms; answers: number, ends_early; prefix_int, text_writing: call_ok; stream_parts: past_limit; call_parts: open_floor, lookup_of, with_uses, waiting_with; VirtualAddressSpace: largest_ref; arena: is_at; entries: check | r ≡ .. | one-exact |
--- | instructions: read_instruction | instructionRead s r ≡ .. | one-instruction: see there |
--- | field_lines: read_on, read_static | fieldRead s a r ≡ .., for every arena | one_field: see there |
--- | field_lines: entry_on, entry_static, static_entry | entryRead a r ≡ .., for every arena | one_entry: see there |
+-- | Table: set_capacity, set_max_blocked, begin, commit, abandon, acknowledge, cancel, increment | Keeps | one_keeps |
+-- | Table: put, find, insert | Puts, Finds, Inserts | one_put, one_find, one_insert |
+-- | on_encoder_recv | Receives (encoder_stream) | one_encoder_call |
+-- | on_decoder_recv | Receives (decoder_stream) | one_decoder_call |
+-- | decode_header, decode_stateless, read_on, read_stateless (decoder) | section_of r fields out ≡ read_all .. | one_section |
+-- | decode_header_listed, decode_stateless_listed (listed) | Lists | one_listed |
+-- | next_on, next_stateless, line_on (section_steps) | r ≡ line_of .. or line_in .., out ≡ out_of .. or out_in .. | one_step |
+-- | begin_on (section_steps) | begun_by r ≡ .. | one_begun (Meanings) |
+-- | every writer: prefix_int, prefix_string, shapes, stream, block; byte_writing::write, static_table::copy, arena::copy | Writes | one_write |
+-- | Ring: push | Pushes | one_push |
+-- | prefix_int: read, size; stream_parts: kind_int; prefix_string: read, size | int_read, text_read, int_size r ≡ .. | one_int, one_text, one_size (Meanings) |
+-- | shapes: text_after, texts | int_text_read, texts_read r ≡ .. | one_int_text, one_texts (Meanings) |
+-- | static_table: get, find, find_name | got, found r ≡ .. | one_got, one_found (Meanings) |
+-- | VirtualAddressSpace: relative, relative_base, post_base, index | located r ≡ .. | one_located (Meanings) |
+-- | stream: read_integer, read_name_ref, read_literal | integer_read, name_ref_read, literal_read r ≡ .. | one_integer, one_name_ref, one_literal (Meanings) |
+-- | block: read_line | line_read r ≡ .. | one_line (Meanings) |
+-- | header_prefix: read_prefix | prefix_read r ≡ .. | one_prefix (Meanings) |
+-- | decoder_stream: read_report | report_read r ≡ .. | one_report (Meanings) |
+-- | entries, Ring: newest | latest r ≡ .. | one_latest (Meanings) |
+-- | dynamic: capacity_test | tested r ≡ .. | one_capacity_test (Meanings) |
+-- | entries: fewest | r ≡ .., for every array of starts | one_room |
+-- | arena: write, move_bytes | the arena after ≡ .. | one_exact |
+-- | section_steps: begin; Table: fresh, checked; dynamic: push_reply; Ring: sound, room, cut; all of tracking and forms; answers: number, ends_early; prefix_int, text_writing: call_ok; stream_parts: past_limit; call_parts: open_floor, lookup_of, with_uses, waiting_with; VirtualAddressSpace: largest_ref; arena: is_at; entries: check | r ≡ .. | one_exact |
+-- | instructions: read_instruction | instruction_read s r ≡ .. | one_instruction: see there |
+-- | field_lines: read_on, read_static | field_read s a r ≡ .., for every arena | one_field: see there |
+-- | field_lines: entry_on, entry_static, static_entry | entry_read a r ≡ .., for every arena | one_entry: see there |
 use mathlib.Core.Path.{◌≡◌, sym, ap, ◌∙◌}
 use mathlib.Core.List.{List, [], ◌++◌}
 use mathlib.Core.Option.{Option}

@@ -24,7 +24,7 @@ use Rattle.field.specs.Field.{Field}
 use Rattle.model.specs.Drop as model-table
 use Rattle.model.specs.Insert as model-insert
 use Rattle.model.specs.Table as model
-use Rattle.ring.specs.Ring.{fields_of, bytes_after}
+use Rattle.ring.specs.Ring.{fields_of}
 use Rattle.ring.specs.declared.Ring.{Ring}
 use Rattle.running.specs.Run.{Ended}
 use Rattle.demands.specs.Calls.{State, holds, Call, set_capacity, set_blocked_maximum, put, find, insert, begin, commit, abandon}

@@ -18,7 +18,7 @@ use Rattle.model.specs.Bounds.{section_entries}
 use Rattle.model.specs.Section as model
 use Rattle.model.specs.Table.{Open}
 use Rattle.tracking.specs.declared.Noted.{Noted}
-use Rattle.dynamic.specs.Calls.{admitted, latest_of, noted_in, with_uses, with_noted, looked, refer_to, found_at, find}
+use Rattle.dynamic.specs.Calls.{admitted, latest_of, noted_in, with_uses, with_noted, looked, found_at, find}
 use Rattle.dynamic.specs.Promise.{outcome, Finds}
 use Rattle.dynamic.specs.Record.{uses_here, view, sound, usable}
 use Rattle.dynamic.specs.declared.Looked.{Looked}

@@ -4,7 +4,6 @@ use Rattle.std.proofs.Math.Option.{Option, some, none}
 use Rattle.answers.specs.declared.Find.{Find}
 use Rattle.answers.specs.declared.Find.TheVariants.{Found}
 use Rattle.answers.specs.declared.Insert.{Insert}
-use Rattle.answers.specs.declared.Insertion.{Insertion}
 use Rattle.answers.specs.declared.Insertion.TheVariants.{NotInserted}
 use Rattle.answers.specs.declared.Lookup.{Lookup}
 use Rattle.answers.specs.declared.Lookup.TheVariants.{Static, NotFound}

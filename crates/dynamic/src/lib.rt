@@ -1,4 +1,6 @@
 // The dynamic table, RFC 9204 3.2: its record, the calls on it, the open section and the peer's reports.
+#![tactic(auto)]
+
 ghost use Rattle.std.specs.Prelude.{◌≡◌, true, false, ◌&&◌, ℕ, ◌+◌, ◌-◌, ◌≤◌, ◌<◌, ◌^◌, leb};
 ghost use Rattle.arena.specs.Ring.{ring as ringBytes, long_enough};
 ghost use Rattle.model.specs.Drop as model-table;

@@ -6,7 +6,7 @@ use Prim.Native.Nat.{ℕ, ◌+◌, ◌-◌, ◌≤◌, ◌<◌}
 use native.Mathlib.Omega.{arith}
 use lib.ListN.{length}
 use Rattle.answers.specs.Answer.{done, refused}
-use Rattle.answers.specs.Table.{Done, ok, replied}
+use Rattle.answers.specs.Table.{ok, replied}
 use Rattle.answers.specs.declared.Refusal.{Refusal}
 use Rattle.answers.specs.declared.Reply.{Reply}
 use Rattle.instructions.specs.Instruction.{Instruction, instruction_at, Inside, Within}

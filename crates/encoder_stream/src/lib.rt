@@ -1,4 +1,6 @@
 // A call on the encoder stream, RFC 9204 4.3: its instructions, read and applied in their order, and the increment that answers them.
+#![tactic(auto)]
+
 ghost use Rattle.std.specs.Prelude.{◌≡◌, true, false, List, ℕ, ◌-◌, ◌≤◌, length};
 ghost use Rattle.answers.specs.Table.{replied};
 ghost use Rattle.vas.specs.Vas.{located, relative_at};

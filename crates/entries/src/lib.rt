@@ -1,5 +1,7 @@
 // A ring of entries over the arena: its rules, the fewest oldest entries to drop, and the latest entry of a field or a name.
 // It takes the arrays of a table as they stand in its record, and knows nothing of what keeps an entry from going.
+#![tactic(auto)]
+
 ghost use Rattle.std.specs.Prelude.{◌≡◌, true, cond, List, map, ℕ, ◌+◌, ◌-◌, ◌*◌, ◌^◌, ◌≤◌, ◌<◌, min, length, get_or};
 ghost use Rattle.std.proofs.Math.Option.{none};
 ghost use Rattle.arena.specs.Ring.{long_enough, ring};

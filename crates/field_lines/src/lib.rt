@@ -1,4 +1,6 @@
 // The field that a line of a section stands for, RFC 9204 4.5.2 to 4.5.6: where its name and its value stand.
+#![tactic(auto)]
+
 ghost use Rattle.std.specs.Prelude.{◌≡◌, List, ℕ, ◌+◌, ◌≤◌, ◌<◌, length};
 ghost use Rattle.answers.specs.Answer.{done, and_then};
 ghost use Rattle.instructions.specs.Instruction.{stretch};

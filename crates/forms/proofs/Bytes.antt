@@ -8,11 +8,8 @@ use native.Mathlib.Omega.{arith}
 use lib.Dec.{T, eqb}
 use lib.ListN.{length, get_or}
 use Rattle.forms.specs.Forms.{form_of, row_of, has_form, encoder_kind, decoder_kind, line_kind}
-use Rattle.forms.specs.declared.EncoderInstruction.{EncoderInstruction}
 use Rattle.forms.specs.declared.EncoderInstruction.TheVariants.{Duplicate, DynamicTableSizeUpdate, InsertWithoutNameRef, InsertWithNameRef}
-use Rattle.forms.specs.declared.DecoderInstruction.{DecoderInstruction}
 use Rattle.forms.specs.declared.DecoderInstruction.TheVariants.{InsertCountIncrement, StreamCancel, HeaderAck}
-use Rattle.forms.specs.declared.HeaderBlockField.{HeaderBlockField}
 use Rattle.forms.specs.declared.HeaderBlockField.TheVariants.{LiteralWithPostBaseNameRef, IndexedWithPostBase, Literal, LiteralWithNameRef, Indexed}
 use Rattle.forms.specs.declared.Kind.{Kind}
 use Rattle.forms.specs.declared.Kind.TheVariants.{Encoder, Decoder, Line}

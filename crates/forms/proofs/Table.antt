@@ -5,11 +5,8 @@ use Prim.Native.Nat.{ℕ, ◌+◌, ◌*◌}
 use lib.ListN.{get_or}
 use Rattle.forms.specs.Forms.{form_of, row_of}
 use Rattle.forms.specs.declared.Form.{Form}
-use Rattle.forms.specs.declared.EncoderInstruction.{EncoderInstruction}
 use Rattle.forms.specs.declared.EncoderInstruction.TheVariants.{Duplicate, DynamicTableSizeUpdate, InsertWithoutNameRef, InsertWithNameRef}
-use Rattle.forms.specs.declared.DecoderInstruction.{DecoderInstruction}
 use Rattle.forms.specs.declared.DecoderInstruction.TheVariants.{InsertCountIncrement, StreamCancel, HeaderAck}
-use Rattle.forms.specs.declared.HeaderBlockField.{HeaderBlockField}
 use Rattle.forms.specs.declared.HeaderBlockField.TheVariants.{LiteralWithPostBaseNameRef, IndexedWithPostBase, Literal, LiteralWithNameRef, Indexed}
 use Rattle.forms.specs.declared.Kind.{Kind}
 use Rattle.forms.specs.declared.Kind.TheVariants.{Encoder, Decoder, Line}

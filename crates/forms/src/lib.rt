@@ -1,4 +1,6 @@
 // The forms of RFC 9204 4.3, 4.4 and 4.5: one table of pattern, mask and width, and the kind that a first byte has.
+#![tactic(auto)]
+
 ghost use Rattle.std.specs.Prelude.{◌≡◌, ◌<◌};
 ghost use Rattle.forms.specs.Forms.{form_of, row_of, head_of, encoder_kind, decoder_kind, line_kind};
 

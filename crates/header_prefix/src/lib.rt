@@ -1,4 +1,6 @@
 // The section prefix, RFC 9204 4.5.1: the required insert count and the base.
+#![tactic(auto)]
+
 ghost use Rattle.std.specs.Prelude.{◌≡◌, cond, ◌≤◌};
 ghost use Rattle.std.proofs.Math.Option.{some, none};
 ghost use Rattle.ring.specs.Ring.{largest_count};

@@ -1,4 +1,6 @@
 // The instructions of the encoder stream, RFC 9204 4.3, by the kind that their first byte gives.
+#![tactic(auto)]
+
 ghost use Rattle.std.specs.Prelude.{◌≡◌};
 ghost use Rattle.forms.specs.declared.EncoderInstruction.TheVariants.{
   Duplicate,

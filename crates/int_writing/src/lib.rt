@@ -1,4 +1,6 @@
 // The octets of a prefix integer, RFC 7541 5.1: how many there are, and their writing.
+#![tactic(auto)]
+
 ghost use Rattle.std.specs.Prelude.{◌≡◌, ◌+◌, ◌-◌, ◌*◌, ◌^◌, ◌≤◌, ◌<◌, length};
 ghost use Rattle.std.proofs.lemmas.List.Edits.{sets};
 ghost use Rattle.answers.specs.Write.{Writes};

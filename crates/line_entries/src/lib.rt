@@ -1,4 +1,6 @@
 // The entry that a reference of a line names, on a table and with none: where its name and its value stand.
+#![tactic(auto)]
+
 ghost use Rattle.std.specs.Prelude.{◌≡◌, List, ℕ, ◌-◌, ◌^◌, ◌<◌};
 ghost use Rattle.vas.specs.Vas.{located};
 ghost use Rattle.line_entries.specs.Entry.{live_at, PositionLive, entry_on, entry_static, entry_read, EntryInside, EntryFixed, static_field, live_in};

@@ -1,4 +1,6 @@
 // The writing of the five field lines, RFC 9204 4.5.
+#![tactic(auto)]
+
 ghost use Rattle.std.specs.Prelude.{◌≡◌};
 ghost use Rattle.answers.specs.Write.{Writes};
 ghost use Rattle.line_writing.specs.Bytes.{index_of, indexed_head, named_head, indexed_bytes, named_bytes, literal_bytes};

@@ -28,7 +28,7 @@ module _ (f : Field) (room : ℕ) (fs : List Field) (many : length fs ≡ lent_o
       → Lists k s f (lent_of room) out (record { decoded = d; fields = fs ++ drop (lent_of room) (replicate records f) }) last
   lists k s d out last e = (
     ap (λ (l : List Field). section_of d l last) (subst (λ (n : ℕ). take n (fs ++ drop (lent_of room) (replicate records f)) ≡ fs) many (take-append_seam fs (drop (lent_of room) (replicate records f))))
-    ∙ e ∙ ap (λ (l : List Field). read_all (λ g. g) k s l out) (lent_part f room),
+        ∙ e ∙ ap (λ (l : List Field). read_all (λ g. g) k s l out) (lent_part f room),
     subst (λ (n : ℕ). drop n (fs ++ drop (lent_of room) (replicate records f)) ≡ drop (lent_of room) (replicate records f)) many (drop-append_seam fs (drop (lent_of room) (replicate records f)))
-    ∙ drop-replicate (lent_of room) records f,
+        ∙ drop-replicate (lent_of room) records f,
   )

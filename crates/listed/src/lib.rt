@@ -1,4 +1,6 @@
 // Sections with their records by value: each reader of `decoder` that stores in a lent list is lent the first records of a list of its own. So whoever calls these needs no proof by hand.
+#![tactic(auto)]
+
 ghost use Rattle.std.specs.Prelude.{◌≡◌};
 ghost use Rattle.decoder.specs.Section.{on_table, stateless};
 ghost use Rattle.listed.specs.Lent.{lent_of, Lists};

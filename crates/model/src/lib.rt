@@ -1,4 +1,5 @@
 // The abstract table of document 01: this crate holds definitions and theorems alone, and the bounds by name.
+#![tactic(auto)]
 
 // Distinct entries of a section.
 pub const SECTION_ENTRIES: usize = 32;

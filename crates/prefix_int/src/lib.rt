@@ -1,5 +1,7 @@
 // Prefix integers, RFC 7541 5.1: a value that starts in the low bits of a byte and goes on, where it
 // does not fit there, in groups of 7 bits, lowest first.
+#![tactic(auto)]
+
 ghost use Rattle.std.specs.Prelude.{◌≡◌, ◌<◌, drop};
 ghost use Rattle.prefix_int.specs.Integer.{groups, int_at, int_read};
 

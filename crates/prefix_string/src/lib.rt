@@ -1,4 +1,6 @@
 // Plain strings, RFC 7541 5.2 without its Huffman code: the H bit, a length as a prefix integer, and the bytes.
+#![tactic(auto)]
+
 ghost use Rattle.std.specs.Prelude.{◌≡◌, ◌≤◌, eqb};
 ghost use Rattle.answers.specs.Answer.{and_then};
 ghost use Rattle.prefix_int.specs.Integer.{int_at};

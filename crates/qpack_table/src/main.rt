@@ -1,4 +1,6 @@
 // The program: an encoder stream on standard input, applied to a fresh table, and a report of the table.
+#![tactic(auto)]
+
 ghost use Rattle.std.specs.Prelude.{◌≡◌, true, ◌+◌, ◌≤◌, length};
 ghost use Rattle.std.proofs.lemmas.List.Edits.{sets};
 ghost use Rattle.ring.specs.Ring.{keeps, live};

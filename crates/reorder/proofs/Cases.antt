@@ -172,7 +172,7 @@ cancelled_first : (handed table (cancellation 1 ∷ (acknowledgement 1 ∷ (ackn
 unfolding calls.release sound keeps keeps_rules between keeps_count releasing
 cancelled_first = refl
 
--- ---- without room for all increments: of 1 and 2 only the first is taken, and the isIncrement differ
+-- ---- without room for all increments: of 1 and 2 only the first is taken, and the answers differ
 
 abbrev full : Table
 full = table_at 4611686018427387901

@@ -99,7 +99,7 @@ module _ (t : Table) (g : Ready t) where
       ap (λ (b : Bool). cond b (done ok) (refused UnknownStreamId))
       (release_made t.queue (facts t g.rules).queued g.places u s (λ e. ne (sym e)))
 
-  -- of two isIncrement the larger one decides what stays blocked
+  -- of two increments the larger one decides what stays blocked
   raises : (j k m : ℕ) → j ≤ m → k ≤ m → raised m (raised j t) ≡ raised m (raised k t)
   raises j k m hj hk =
       let less : (i : ℕ) → i ≤ m → let_go (let_go t.waiting i) m ≡ let_go t.waiting m =

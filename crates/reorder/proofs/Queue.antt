@@ -50,7 +50,7 @@ module _ (s : ℕ) where
       go true e = rw (released_is q h long s, e)
       go false e = rw (released_is q h long s, e) (ap sections_of (not_released q h long s e))
 
--- ---- isIncrement of reports: one more of stream s
+-- ---- increments of reports: one more of stream s
 
 abbrev pub more : ℕ → (ℕ → ℕ) → ℕ → ℕ
 more s r t = cond (eqb t s) (suc (r t)) (r t)

@@ -1,1 +1,3 @@
+#![tactic(auto)]
+
 // The peer's reports in any order that keeps each stream's own. Definitions and laws alone.

@@ -1,4 +1,6 @@
 // A script of calls on standard input, made on the library one after the other, with an answer line for each.
+#![tactic(auto)]
+
 use dynamic::Table;
 use script::input::{Command, FIRST, LONGEST, MOST_COMMANDS, Texts};
 use script::{faults, input};

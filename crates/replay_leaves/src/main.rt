@@ -1,4 +1,6 @@
 // A script of calls that need no table, on standard input, with an answer line for each: `replay` for the leaves alone.
+#![tactic(auto)]
+
 use script::input::{Command, FIRST, LONGEST, MOST_COMMANDS, Texts};
 use script::{faults, input, text};
 

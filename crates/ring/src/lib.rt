@@ -1,4 +1,6 @@
 // A table's entries by value: the ring's numbers and arrays, a push that drops what it must, a smaller capacity, and the latest entry.
+#![tactic(auto)]
+
 ghost use Rattle.std.specs.Prelude.{◌≡◌, true, cond, List, map, ℕ, ◌+◌, ◌-◌, ◌%◌, ◌<◌, ◌≤◌, leb, length};
 ghost use Rattle.std.proofs.Math.Option.{none};
 ghost use Rattle.arena.specs.Ring.{ring, long_enough};

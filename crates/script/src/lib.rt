@@ -1,4 +1,6 @@
 // A script's commands on standard input, and their answers on standard output.
+#![tactic(auto)]
+
 pub mod answer;
 pub mod bounds;
 pub mod faults;

@@ -1,4 +1,6 @@
 // A script's commands, each handed to the crate that makes its call.
+#![tactic(auto)]
+
 use dynamic::Table;
 use script::input::{ARENA, Command, Texts};
 use script::opcodes::OPCODES;

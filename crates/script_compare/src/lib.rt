@@ -1,4 +1,6 @@
 // A script's call that compares two tables: the whole records, and the live entries' strings. Numbers differ where their exclusive or is not 0.
+#![tactic(auto)]
+
 use arena::RING;
 use dynamic::Table;
 use entries::SLOTS;

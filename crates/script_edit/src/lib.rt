@@ -1,4 +1,6 @@
 // A script's calls that set a record's fields one by one, sound or not.
+#![tactic(auto)]
+
 use dynamic::Table;
 use entries::SLOTS;
 use model::{BLOCKED_VALUES, QUEUE_PLACES, SECTION_ENTRIES};

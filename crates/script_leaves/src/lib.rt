@@ -1,4 +1,6 @@
 // A script's calls on integers, strings, the static table, indexes, kinds and refusals, and those of single instructions and field lines.
+#![tactic(auto)]
+
 pub mod kinds;
 mod leaf;
 pub mod readers;

@@ -1,4 +1,6 @@
 // A script's calls on the parts of a table: its arena, its ring, its queue, its blocked values and its open section's uses.
+#![tactic(auto)]
+
 mod held;
 mod rings;
 

@@ -1,4 +1,6 @@
 // A script's calls of the readers: instructions, reports, prefixes and field lines.
+#![tactic(auto)]
+
 mod fields;
 
 use decoder_stream::ReportRead;

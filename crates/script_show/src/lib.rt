@@ -1,4 +1,6 @@
 // A script's calls that show a table's record, and show and overwrite its arena's bytes.
+#![tactic(auto)]
+
 mod bytes;
 mod show;
 

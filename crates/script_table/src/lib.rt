@@ -1,4 +1,6 @@
 // A script's calls on a table, each with its answer line, and the table after it.
+#![tactic(auto)]
+
 mod section;
 mod step;
 

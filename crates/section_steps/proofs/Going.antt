@@ -7,7 +7,6 @@ use native.Mathlib.Omega.{arith}
 use lib.Dec.{leb}
 use lib.ListN.{length, get_or}
 use Rattle.answers.specs.Answer.{Answer, done, refused, and_then}
-use Rattle.answers.specs.declared.Refusal.{Refusal}
 use Rattle.answers.specs.declared.Refusal.TheVariants.{UnexpectedEnd, MissingRefs, OutputFull, HeaderTooLong}
 use Rattle.answers.specs.declared.Reply.{Reply}
 use Rattle.answers.proofs.Then.{then_done}

@@ -3,7 +3,6 @@ use Rattle.std.specs.Prelude.{◌≡◌, Bool, true, false, ◌&&◌, cond, List
 use Rattle.std.proofs.Math.Option.{Option, some, none}
 use Rattle.std.proofs.lemmas.List.Edits.{sets}
 use Rattle.answers.specs.Answer.{Answer, done, refused, and_then}
-use Rattle.answers.specs.declared.Refusal.{Refusal}
 use Rattle.answers.specs.declared.Refusal.TheVariants.{SectionOpen, BadCall, OutputFull, HeaderTooLong}
 use Rattle.answers.specs.declared.Reply.{Reply}
 use Rattle.arena.specs.Ring.{long_enough}

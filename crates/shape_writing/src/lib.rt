@@ -1,4 +1,6 @@
 // The writing of an integer and a value, or of a name and a value: both or nothing.
+#![tactic(auto)]
+
 ghost use Rattle.std.specs.Prelude.{◌≡◌, ◌+◌, leb, length};
 ghost use Rattle.answers.specs.Answer.{and_then, done};
 ghost use Rattle.answers.specs.Write.{Writes};

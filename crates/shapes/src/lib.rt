@@ -1,4 +1,6 @@
 // What instructions and field lines are made of beyond one integer: an integer and a value, or a name and a value.
+#![tactic(auto)]
+
 ghost use Rattle.std.specs.Prelude.{◌≡◌};
 ghost use Rattle.prefix_int.specs.Integer.{int_read};
 ghost use Rattle.shapes.specs.Shapes.{int_text_read, text_after, texts_read, texts_at};

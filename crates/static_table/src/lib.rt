@@ -1,4 +1,6 @@
 // The static table of RFC 9204, Appendix A: ninety-nine names and values laid end to end as bytes.
+#![tactic(auto)]
+
 ghost use Rattle.std.specs.Prelude.{◌≡◌, ◌+◌, ◌≤◌, ◌<◌, length, get_or, take, drop};
 ghost use Rattle.answers.specs.Write.{Writes};
 ghost use Rattle.field.specs.Field.{same, equal};

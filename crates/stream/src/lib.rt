@@ -1,4 +1,6 @@
 // The instructions of both streams, RFC 9204 4.3 and 4.4, each read and written by itself.
+#![tactic(auto)]
+
 ghost use Rattle.std.specs.Prelude.{◌≡◌};
 ghost use Rattle.stream.specs.Instructions.{
   integer_at,

@@ -1,4 +1,6 @@
 // What the readers of the instructions stand on, their first integer and its limit; and the writers. RFC 9204 4.3 and 4.4.
+#![tactic(auto)]
+
 ghost use Rattle.std.specs.Prelude.{◌≡◌};
 ghost use Rattle.answers.specs.Write.{Writes};
 ghost use Rattle.prefix_int.specs.Integer.{int_read};

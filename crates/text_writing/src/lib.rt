@@ -1,4 +1,6 @@
 // The writing of plain strings, RFC 7541 5.2: how many bytes one takes, and its H bit, length and bytes.
+#![tactic(auto)]
+
 ghost use Rattle.std.specs.Prelude.{◌≡◌, true, ◌+◌, ◌≤◌, length};
 ghost use Rattle.std.proofs.lemmas.List.Edits.{sets};
 ghost use Rattle.answers.specs.Write.{Writes};

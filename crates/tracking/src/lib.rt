@@ -1,4 +1,6 @@
 // What a table keeps of sections: the entries that each one uses, and the queue of committed ones. The blocked ones stand in a crate of their own.
+#![tactic(auto)]
+
 ghost use Rattle.std.specs.Prelude.{◌≡◌, true, ◌<◌, ◌≤◌, min, take};
 ghost use Rattle.model.specs.Bounds.{section_entries, queue_places};
 ghost use Rattle.tracking.specs.Uses.{place_of, use_of, noting};

@@ -1,4 +1,6 @@
 // Index arithmetic, RFC 9204 3.2.4 to 3.2.6: relative, base-relative and post-base indexes, absolute indexes from 1, and positions.
+#![tactic(auto)]
+
 ghost use Rattle.std.specs.Prelude.{◌≡◌, ◌-◌};
 ghost use Rattle.vas.specs.Vas.{located, relative_at, base_relative_at, post_base_at, absolute_of};
 

@@ -1,9 +1,8 @@
 -- `arena::copy`: a short arena, then a full buffer is refused; else the loop keeps `Copying`. Assumes nothing.
-use Prim.Native.Nat.{◌-◌}
 use native.Mathlib.Omega.{arith}
 use borrow.Author.Tests.{lt-leb}
 use Rattle.answers.proofs.Write.{writes_refused}
-use Rattle.arena.proofs.Copying.{Copying, none, one, all, no_room, room}
+use Rattle.arena.proofs.Copying.{none, one, all, no_room, room}
 use Rattle.arena.proofs.copy.Goals as goal
 
 pub returns-then-arena-lt-RING : goal.returns-then-arena-lt-RING

@@ -1,9 +1,6 @@
 -- `arena::copy`: a short arena, then a full buffer is refused; else the loop keeps `Copying`. Assumes nothing.
 use Prim.Native.Nat.{◌-◌}
-use native.Mathlib.Omega.{arith}
-use borrow.Author.Tests.{lt-leb}
-use Rattle.answers.proofs.Write.{writes_refused}
-use Rattle.arena.proofs.Copying.{Copying, none, one, all, no_room, room}
+use Rattle.arena.proofs.Copying.{Copying}
 use Rattle.arena.proofs.copy.Given as goal
 
 abbrev pub invariant-loop-i : goal.invariant-loop-i

@@ -1,9 +1,8 @@
 -- `arena::is_at`: a short arena has no string; in a long one the loop keeps `Matching`. Assumes nothing.
 use mathlib.Core.Path.{sym}
-use Prim.Native.Nat.{◌-◌}
 use native.Mathlib.Omega.{arith}
 use borrow.Author.Tests.{le-leb, lt-leb}
-use Rattle.arena.proofs.Matching.{Matching, none, on, off, all}
+use Rattle.arena.proofs.Matching.{none, on, off, all}
 use Rattle.arena.proofs.is_at.Goals as goal
 
 pub returns-then-arena-lt-RING : goal.returns-then-arena-lt-RING

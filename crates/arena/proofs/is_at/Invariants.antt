@@ -1,9 +1,6 @@
 -- `arena::is_at`: a short arena has no string; in a long one the loop keeps `Matching`. Assumes nothing.
-use mathlib.Core.Path.{sym}
 use Prim.Native.Nat.{◌-◌}
-use native.Mathlib.Omega.{arith}
-use borrow.Author.Tests.{le-leb, lt-leb}
-use Rattle.arena.proofs.Matching.{Matching, none, on, off, all}
+use Rattle.arena.proofs.Matching.{Matching}
 use Rattle.arena.proofs.is_at.Given as goal
 
 abbrev pub invariant-loop-i : goal.invariant-loop-i

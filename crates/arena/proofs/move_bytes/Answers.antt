@@ -1,7 +1,7 @@
 -- `arena::move_bytes`: a short arena stays as it is; in a long one the loop keeps `Moving`. Assumes nothing.
 use native.Mathlib.Omega.{arith}
 use borrow.Author.Tests.{le-leb, lt-leb}
-use Rattle.arena.proofs.Moving.{Moving, none, one, all}
+use Rattle.arena.proofs.Moving.{none, one, all}
 use Rattle.arena.proofs.move_bytes.Goals as goal
 
 pub returns-then-arena-lt-RING : goal.returns-then-arena-lt-RING

@@ -1,7 +1,5 @@
 -- `arena::move_bytes`: a short arena stays as it is; in a long one the loop keeps `Moving`. Assumes nothing.
-use native.Mathlib.Omega.{arith}
-use borrow.Author.Tests.{le-leb, lt-leb}
-use Rattle.arena.proofs.Moving.{Moving, none, one, all}
+use Rattle.arena.proofs.Moving.{Moving}
 use Rattle.arena.proofs.move_bytes.Given as goal
 
 abbrev pub invariant-loop-left : goal.invariant-loop-left

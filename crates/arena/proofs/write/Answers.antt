@@ -1,9 +1,7 @@
 -- `arena::write`: a short arena stays as it is; in a long one the loop keeps `Writing`. Assumes nothing.
-use Prim.Native.Nat.{◌-◌}
 use native.Mathlib.Omega.{arith}
-use lib.ListN.{length}
 use borrow.Author.Tests.{le-leb, lt-leb}
-use Rattle.arena.proofs.Writing.{Writing, none, one, all}
+use Rattle.arena.proofs.Writing.{none, one, all}
 use Rattle.arena.proofs.write.Goals as goal
 
 pub returns-then-arena-lt-RING : goal.returns-then-arena-lt-RING

@@ -1,9 +1,7 @@
 -- `arena::write`: a short arena stays as it is; in a long one the loop keeps `Writing`. Assumes nothing.
 use Prim.Native.Nat.{◌-◌}
-use native.Mathlib.Omega.{arith}
 use lib.ListN.{length}
-use borrow.Author.Tests.{le-leb, lt-leb}
-use Rattle.arena.proofs.Writing.{Writing, none, one, all}
+use Rattle.arena.proofs.Writing.{Writing}
 use Rattle.arena.proofs.write.Given as goal
 
 abbrev pub invariant-loop-i : goal.invariant-loop-i

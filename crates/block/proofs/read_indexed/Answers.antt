@@ -3,7 +3,6 @@ use mathlib.Core.Path.{sym, ap, ◌∙◌}
 use Rattle.forms.specs.declared.Form.{Form}
 use Rattle.prefix_int.specs.Integer.{int_at, int_read}
 use Rattle.block.specs.Lines.{indexed_line}
-use borrow.Author.Rules.{rules}
 use Rattle.block.proofs.read_indexed.Goals as goal
 
 pub returns-in-Int : goal.returns-in-Int

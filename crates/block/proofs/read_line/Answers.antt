@@ -5,7 +5,6 @@ use Rattle.forms.specs.declared.HeaderBlockField.{HeaderBlockField}
 use Rattle.block.specs.Lines.{indexed_line, named_line, line_of, line_at}
 use mathlib.Core.Bool.{true, false}
 use Rattle.block.proofs.Laws.{line_by_kind}
-use borrow.Author.Rules.{rules}
 use Rattle.block.proofs.read_line.Goals as goal
 
 pub returns-then-s-at : goal.returns-then-s-at

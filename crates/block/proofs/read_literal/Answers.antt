@@ -3,7 +3,6 @@ use mathlib.Core.Path.{sym, ap, ◌∙◌}
 use Rattle.forms.specs.declared.Form.{Form}
 use Rattle.shapes.specs.Shapes.{texts_at, texts_read}
 use Rattle.block.specs.Lines.{literal_line}
-use borrow.Author.Rules.{rules}
 use Rattle.block.proofs.read_literal.Goals as goal
 
 pub returns-in-Texts : goal.returns-in-Texts

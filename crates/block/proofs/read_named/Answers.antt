@@ -4,7 +4,6 @@ use Rattle.forms.specs.declared.Form.{Form}
 use Rattle.prefix_int.specs.Integer.{int_at}
 use Rattle.shapes.specs.Shapes.{text_after, int_text_read}
 use Rattle.block.specs.Lines.{named_line}
-use borrow.Author.Rules.{rules}
 use Rattle.block.proofs.read_named.Goals as goal
 
 pub returns-in-IntText : goal.returns-in-IntText

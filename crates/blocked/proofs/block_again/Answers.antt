@@ -1,7 +1,7 @@
 -- `blocked::block_again`: one case of `blocking`. Assumes nothing.
 use mathlib.Core.Path.{◌≡◌, sym}
 use native.Mathlib.Omega.{arith}
-use lib.ListN.{length, length-map}
+use lib.ListN.{length}
 use Rattle.blocked.proofs.Counting.{few_values}
 use Rattle.blocked.proofs.Blocking.{bounded, one_more}
 use Rattle.blocked.proofs.block_again.Goals.{Start}

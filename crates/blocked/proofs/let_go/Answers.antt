@@ -1,13 +1,12 @@
 -- `blocked::let_go`: the loop keeps `Keeping`. Assumes nothing.
 use mathlib.Core.Path.{◌≡◌, sym, ◌∙◌}
 use mathlib.Core.Bool.{true}
-use Prim.Native.Nat.{◌-◌}
 use native.Mathlib.Omega.{arith}
-use lib.ListN.{length, length-map}
+use lib.ListN.{length}
 use borrow.Author.Tests.{not-true, not-false}
 use Rattle.blocked.specs.Waiting.{no_value, keeps_count}
 use Rattle.blocked.proofs.Counting.{few_values, sums_up, few_sections}
-use Rattle.blocked.proofs.Keeping.{Keeping, none_kept, gone, fits, one_kept, all_kept, breaks_rule, lets_go}
+use Rattle.blocked.proofs.Keeping.{none_kept, gone, fits, one_kept, all_kept, breaks_rule, lets_go}
 use Rattle.blocked.proofs.let_go.Goals.{Else-not-ok, Start}
 use Rattle.blocked.proofs.let_go.Goals as goal
 

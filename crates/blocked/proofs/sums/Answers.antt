@@ -1,10 +1,9 @@
 -- `blocked::sums`: the loop keeps `Counting`. Assumes nothing.
 use mathlib.Core.Path.{◌≡◌, sym}
-use Prim.Native.Nat.{◌-◌}
 use native.Mathlib.Omega.{arith}
-use lib.ListN.{length, length-map}
+use lib.ListN.{length}
 use Rattle.blocked.specs.Waiting.{no_value}
-use Rattle.blocked.proofs.Counting.{Counting, count, counted, past, settled}
+use Rattle.blocked.proofs.Counting.{count, counted, past, settled}
 use Rattle.blocked.proofs.sums.Goals.{Start}
 use Rattle.blocked.proofs.sums.Goals as goal
 

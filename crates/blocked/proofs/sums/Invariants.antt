@@ -1,10 +1,6 @@
 -- `blocked::sums`: the loop keeps `Counting`. Assumes nothing.
-use mathlib.Core.Path.{◌≡◌, sym}
 use Prim.Native.Nat.{◌-◌}
-use native.Mathlib.Omega.{arith}
-use lib.ListN.{length, length-map}
-use Rattle.blocked.specs.Waiting.{no_value}
-use Rattle.blocked.proofs.Counting.{Counting, count, counted, past, settled}
+use Rattle.blocked.proofs.Counting.{Counting}
 use Rattle.blocked.proofs.sums.Given as goal
 
 abbrev pub invariant-loop-i : goal.invariant-loop-i

@@ -1,10 +1,8 @@
 -- `blocked::value_at`: the loop keeps `Searching`. Assumes nothing.
 use mathlib.Core.Path.{◌≡◌}
-use Prim.Native.Nat.{◌-◌}
 use native.Mathlib.Omega.{arith}
-use lib.ListN.{length, length-map}
-use Rattle.blocked.proofs.Searching.{Searching, not_yet, here, not_here, nowhere}
-use Rattle.blocked.specs.declared.Value.{Value}
+use lib.ListN.{length}
+use Rattle.blocked.proofs.Searching.{not_yet, here, not_here, nowhere}
 use Rattle.blocked.proofs.value_at.Goals.{Start}
 use Rattle.blocked.proofs.value_at.Goals as goal
 

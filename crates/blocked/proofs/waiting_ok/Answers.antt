@@ -1,4 +1,4 @@
--- `blocked::waiting_ok`: two bounds, then what is left of `keepsCount`. Assumes nothing.
+-- `blocked::waiting_ok`: two bounds, then what is left of `keeps_count`. Assumes nothing.
 use mathlib.Core.Path.{sym, ◌∙◌}
 use native.Mathlib.Omega.{arith}
 use Rattle.blocked.proofs.Counting.{many_values, many_sections, none_blocked, keeps_sum}

@@ -1,12 +1,11 @@
 -- `byte_writing::put`. The invariant: storing what is left gives the list that storing all gives. Assumes nothing.
-use mathlib.Core.Path.{◌≡◌, refl, sym, ◌∙◌}
-use Prim.Native.Nat.{◌+◌, ◌-◌, ◌≤◌}
+use mathlib.Core.Path.{refl, sym, ◌∙◌}
+use Prim.Native.Nat.{◌+◌}
 use native.Mathlib.Nat.{add-zero}
 use native.Mathlib.Omega.{arith}
-use lib.ListN.{length, drop, length-set}
-use lib.Seq.{sets}
+use lib.ListN.{length-set}
 use borrow.Author.Rules.{rules}
-use Rattle.byte_writing.proofs.Stretch.{cut, put_more, put_end}
+use Rattle.byte_writing.proofs.Stretch.{put_more, put_end}
 use Rattle.byte_writing.proofs.put.Goals as goal
 
 pub loop-k-init : goal.loop-k-init

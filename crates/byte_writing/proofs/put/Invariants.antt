@@ -1,12 +1,9 @@
 -- `byte_writing::put`. The invariant: storing what is left gives the list that storing all gives. Assumes nothing.
-use mathlib.Core.Path.{◌≡◌, refl, sym, ◌∙◌}
+use mathlib.Core.Path.{◌≡◌}
 use Prim.Native.Nat.{◌+◌, ◌-◌, ◌≤◌}
-use native.Mathlib.Nat.{add-zero}
-use native.Mathlib.Omega.{arith}
-use lib.ListN.{length, drop, length-set}
+use lib.ListN.{length, drop}
 use lib.Seq.{sets}
-use borrow.Author.Rules.{rules}
-use Rattle.byte_writing.proofs.Stretch.{cut, put_more, put_end}
+use Rattle.byte_writing.proofs.Stretch.{cut}
 use Rattle.byte_writing.proofs.put.Given as goal
 
 abbrev pub invariant-loop-k : goal.invariant-loop-k

@@ -4,7 +4,6 @@ use Prim.Native.Nat.{◌+◌, ◌≤◌}
 use native.Mathlib.Omega.{arith}
 use lib.ListN.{length}
 use Rattle.byte_writing.proofs.Stretch.{write_bad, write_full, write_next}
-use borrow.Author.Rules.{rules}
 use borrow.Author.Tests.{not-true, not-false, leb-true, leb-false}
 use Rattle.byte_writing.proofs.write.Lts
 use Rattle.byte_writing.proofs.write.Reads

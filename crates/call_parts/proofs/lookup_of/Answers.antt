@@ -1,5 +1,4 @@
 -- `call_parts::lookup_of`: by whether the entry lies above the base. Assumes nothing.
-use borrow.Author.Rules.{rules}
 use borrow.Author.Tests.{le-leb, lt-leb}
 use Rattle.call_parts.proofs.lookup_of.Goals as goal
 

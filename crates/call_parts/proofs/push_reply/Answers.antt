@@ -1,5 +1,4 @@
 -- The proof of `push_reply`: its answer is the one of the push, by its variant. Assumes nothing.
-use borrow.Author.Rules.{rules}
 use borrow.Author.Tests.{eq-eqb, ne_eqb}
 use Rattle.call_parts.specs.Parts.{push_reply}
 use Rattle.call_parts.proofs.push_reply.Goals as goal

@@ -1,7 +1,6 @@
 -- `call_parts::waiting_with`: not above the known received count, or one more. Assumes nothing.
 use mathlib.Core.Path.{◌∙◌}
 use borrow.Author.Tests.{le-leb, lt-leb}
-use borrow.Author.Rules.{rules}
 use Rattle.call_parts.proofs.waiting_with.Goals as goal
 
 pub returns-then-largest-known : goal.returns-then-largest-known

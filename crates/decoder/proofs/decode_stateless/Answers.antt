@@ -1,11 +1,10 @@
 -- `decoder::decode_stateless`: each turn stores a field, or ends the section. Assumes nothing.
-use mathlib.Core.Path.{◌≡◌, refl, sym, ◌∙◌}
-use Prim.Native.Nat.{◌-◌}
+use mathlib.Core.Path.{refl, ◌∙◌}
 use native.Mathlib.Omega.{arith}
-use lib.ListN.{length, length-set}
+use lib.ListN.{length-set}
 use Rattle.decoder.specs.Section.{stateless}
 use Rattle.section_steps.specs.declared.Field.{Field}
-use Rattle.decoder.proofs.Turns.{Stands, first, stands_ended, stands_within, stands_moves, stands_next}
+use Rattle.decoder.proofs.Turns.{first, stands_ended, stands_within, stands_moves, stands_next}
 use Rattle.decoder.proofs.decode_stateless.Goals as goal
 
 pub loop-max-init : goal.loop-max-init

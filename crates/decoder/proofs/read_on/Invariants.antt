@@ -1,14 +1,10 @@
 -- `decoder::read_on`: past the prefix, each turn stores a field, or ends the section. Assumes nothing.
-use mathlib.Core.Path.{◌≡◌, refl, sym, ap, ◌∙◌}
+use mathlib.Core.Path.{◌≡◌}
 use Prim.Native.Nat.{◌-◌}
-use native.Mathlib.Omega.{arith}
-use lib.ListN.{length, length-set}
-use borrow.Author.Rules.{rules}
+use lib.ListN.{length}
 use Rattle.answers.specs.Answer.{done}
-use Rattle.decoder.specs.Section.{on_table, start, cursor_at, begun_by, numbers}
-use Rattle.decoder.proofs.Turns.{Stands, first_past, read_unread, stands_ended, stands_within, stands_moves, stands_started, stands_next}
-use Rattle.section_steps.proofs.Lines.{next_in}
-use Rattle.section_steps.proofs.Stepping.{stays_past, has_started}
+use Rattle.decoder.specs.Section.{on_table, cursor_at, numbers}
+use Rattle.decoder.proofs.Turns.{Stands}
 use Rattle.decoder.proofs.read_on.Given as goal
 
 abbrev pub invariant-loop-table : goal.invariant-loop-table

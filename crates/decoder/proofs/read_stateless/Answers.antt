@@ -1,10 +1,9 @@
 -- `decoder::read_stateless`: each turn stores a field, or ends the section. Assumes nothing.
-use mathlib.Core.Path.{◌≡◌, refl, sym, ◌∙◌}
-use Prim.Native.Nat.{◌-◌}
+use mathlib.Core.Path.{refl, sym, ◌∙◌}
 use native.Mathlib.Omega.{arith}
-use lib.ListN.{length, length-set}
+use lib.ListN.{length-set}
 use Rattle.decoder.specs.Section.{stateless, numbers}
-use Rattle.decoder.proofs.Turns.{Stands, first, stands_ended, stands_within, stands_moves, stands_next}
+use Rattle.decoder.proofs.Turns.{first, stands_ended, stands_within, stands_moves, stands_next}
 use Rattle.decoder.proofs.read_stateless.Goals as goal
 
 pub begin-c-requires : goal.begin-c-requires

@@ -1,12 +1,10 @@
 -- `decoder_stream::on_decoder_recv`: a broken record, an open section, or the reports. Assumes nothing.
 use mathlib.Core.Path.{◌≡◌}
 use mathlib.Core.Bool.{true}
-use lib.ListN.{length-map}
 use borrow.Author.Tests.{not-true, not-false}
 use Rattle.dynamic.specs.Record.{sound}
 use Rattle.dynamic.proofs.Told.{checked_false, checked_true}
 use Rattle.decoder_stream.proofs.Receiving.{receives_broken, receives_open, receives_run}
-use borrow.Author.Rules.{rules}
 use Rattle.decoder_stream.proofs.on_decoder_recv.Goals.{Else-not-c}
 use Rattle.decoder_stream.proofs.on_decoder_recv.Goals as goal
 

@@ -9,7 +9,6 @@ use Rattle.forms.specs.declared.DecoderInstruction.TheVariants.{InsertCountIncre
 use Rattle.stream.specs.Instructions.{integer_read}
 use Rattle.decoder_stream.specs.Reports.{report_of, report_at}
 use Rattle.decoder_stream.proofs.Reading.{report_cut, report_refused, report_whole, report_past}
-use borrow.Author.Rules.{rules}
 use Rattle.decoder_stream.proofs.read_report.Goals.{After-decoder_kind-kind, In-Integer}
 use Rattle.decoder_stream.proofs.read_report.Goals as goal
 

@@ -1,6 +1,5 @@
 -- `dynamic::find_in`: what was not admitted, or what the search gives. Assumes nothing.
 use mathlib.Core.Path.{refl, ◌∙◌}
-use borrow.Author.Rules.{rules}
 use Rattle.entries.proofs.Chain.{and_left, and_right}
 use Rattle.dynamic.specs.Calls.{table_of}
 use Rattle.dynamic.specs.Record.{sound, usable}

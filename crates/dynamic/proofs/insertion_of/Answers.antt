@@ -1,7 +1,6 @@
 -- `dynamic::insertion_of`: by what names the new entry; an older entry lies below it. Assumes nothing.
 use Prim.Native.Nat.{◌<◌}
 use native.Mathlib.Omega.{arith}
-use borrow.Author.Rules.{rules}
 use Rattle.dynamic.specs.Calls.{OlderThan}
 use Rattle.dynamic.specs.declared.Origin.TheVariants.{EqualEntry, NamedEntry}
 use Rattle.dynamic.proofs.insertion_of.Goals.{In-EqualEntry, In-NamedEntry}

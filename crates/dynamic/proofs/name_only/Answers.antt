@@ -1,7 +1,6 @@
 -- `dynamic::name_only`: the static name, else what a search for the name gives. Assumes nothing.
 use mathlib.Core.Path.{◌≡◌, refl, sym, ap, ◌∙◌}
 use mathlib.Core.Option.{none}
-use borrow.Author.Rules.{rules}
 use Rattle.answers.specs.declared.Find.{Find}
 use Rattle.static_table.specs.Static.{found, lowest_name}
 use Rattle.dynamic.specs.Calls.{Rest, table_of, looked, inserting, not_inserted}

@@ -2,7 +2,6 @@
 use mathlib.Core.Path.{ap, ◌∙◌}
 use Prim.Native.Nat.{◌<◌}
 use native.Mathlib.Omega.{arith}
-use borrow.Author.Rules.{rules}
 use borrow.Author.Tests.{not-true, not-false}
 use Rattle.tracking.specs.declared.Section.{Section}
 use Rattle.dynamic.specs.Calls.{OlderThan, NewerThan, noted_in, origin_of}

@@ -4,7 +4,6 @@ use mathlib.Core.Bool.{true, false}
 use mathlib.Core.Option.{some, none}
 use Prim.Native.Nat.{◌-◌, ◌<◌}
 use native.Mathlib.Omega.{arith}
-use borrow.Author.Rules.{rules}
 use Rattle.static_table.specs.Static.{found, lowest_name}
 use Rattle.dynamic.specs.Calls.{latest_after}
 use Rattle.dynamic.proofs.Naming.{names_equal, names_static, names_named, names_plain}

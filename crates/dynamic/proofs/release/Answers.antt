@@ -1,14 +1,13 @@
 -- `dynamic::release`: what was not admitted, nothing queued, or a release. Assumes nothing.
 use mathlib.Core.Path.{◌≡◌, refl, sym, ap, ◌∙◌}
 use mathlib.Core.Bool.{false}
-use borrow.Author.Rules.{rules}
 use borrow.Author.Tests.{not-true, not-false}
 use Rattle.answers.specs.declared.Refusal.TheVariants.{UnknownStreamId}
 use Rattle.answers.specs.declared.Reply.{Reply}
 use Rattle.tracking.specs.Queue.{releasing}
 use Rattle.tracking.specs.declared.Queue.{Queue}
 use Rattle.tracking.specs.declared.Queued.{Queued}
-use Rattle.dynamic.specs.Calls.{answer, admitted, with_queue}
+use Rattle.dynamic.specs.Calls.{answer, with_queue}
 use Rattle.dynamic.specs.Record.{sound}
 use Rattle.dynamic.specs.declared.Table.{Table}
 use Rattle.dynamic.proofs.Reports.{unreleased, release_refused, release_none, release_done}

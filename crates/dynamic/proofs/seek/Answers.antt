@@ -2,8 +2,7 @@
 use mathlib.Core.Path.{◌≡◌}
 use mathlib.Core.Option.{some}
 use native.Mathlib.Omega.{arith}
-use lib.ListN.{length, length-map}
-use borrow.Author.Rules.{rules}
+use lib.ListN.{length}
 use Rattle.model.specs.Bounds.{section_entries}
 use Rattle.dynamic.specs.Calls.{table_of, latest_of}
 use Rattle.dynamic.specs.declared.Table.{Table}

@@ -4,7 +4,6 @@ use native.Mathlib.Omega.{arith}
 use lib.ListN.{length}
 use Rattle.encoder_stream.specs.Entries.{holding}
 use Rattle.encoder_stream.proofs.Applying.{literal_within, name_ref_within, applies_duplicate, applies_capacity, applies_literal, applies_name_ref}
-use borrow.Author.Rules.{rules}
 use Rattle.encoder_stream.proofs.apply.Goals as goal
 
 -- an insert's strings lie in the slice

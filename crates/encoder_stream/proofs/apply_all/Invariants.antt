@@ -1,15 +1,9 @@
 -- `encoder_stream::apply_all`: each turn applies an instruction, or ends the call at it. Assumes nothing.
-use mathlib.Core.Path.{◌≡◌, refl, sym, ap, ◌∙◌}
-use mathlib.Core.Option.{some}
-use Prim.Native.Nat.{◌-◌, ◌<◌, ◌≤◌}
-use native.Mathlib.Omega.{arith}
+use mathlib.Core.Path.{◌≡◌}
+use Prim.Native.Nat.{◌-◌}
 use lib.ListN.{length}
-use borrow.Author.Rules.{rules}
-use Rattle.answers.specs.Answer.{done}
-use Rattle.instructions.specs.Instruction.{Instruction, parsed, instruction_at, instruction_read, Inside}
-use Rattle.running.specs.Run.{Whole}
 use Rattle.encoder_stream.specs.Entries.{holding}
-use Rattle.encoder_stream.proofs.Turns.{Going, whole_within, going, ends_over, ends_cut, ends_bad, ends_refused, goes_on}
+use Rattle.encoder_stream.proofs.Turns.{Going}
 use Rattle.encoder_stream.proofs.apply_all.Given as goal
 
 abbrev pub invariant-loop-at : goal.invariant-loop-at

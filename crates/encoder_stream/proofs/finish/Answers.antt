@@ -1,6 +1,5 @@
 -- `encoder_stream::finish`: an increment where all was applied, nothing after a refusal. Assumes nothing.
 use Rattle.encoder_stream.proofs.Increments.{told_done, told_refused}
-use borrow.Author.Rules.{rules}
 use Rattle.encoder_stream.proofs.finish.Goals as goal
 
 pub returns-in-Done : goal.returns-in-Done

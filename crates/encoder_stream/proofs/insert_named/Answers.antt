@@ -2,7 +2,6 @@
 use mathlib.Core.Path.{sym, ap, ◌∙◌}
 use Rattle.vas.specs.Vas.{located}
 use Rattle.encoder_stream.proofs.Applying.{named_unnamed, named_pushed}
-use borrow.Author.Rules.{rules}
 use Rattle.encoder_stream.proofs.insert_named.Goals as goal
 
 pub returns-in-Refused : goal.returns-in-Refused

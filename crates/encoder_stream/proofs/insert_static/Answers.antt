@@ -7,7 +7,6 @@ use Rattle.answers.specs.Answer.{done}
 use Rattle.static_table.specs.Static.{Place, entry_at, got}
 use Rattle.encoder_stream.proofs.Applying.{static_unnamed, static_pushed}
 use Rattle.encoder_stream.proofs.StaticNames.{static_refused, copied_long, copied_name}
-use borrow.Author.Rules.{rules}
 use Rattle.encoder_stream.proofs.insert_static.Goals.{After-copy}
 use Rattle.encoder_stream.proofs.insert_static.Goals as goal
 

@@ -1,6 +1,5 @@
 -- `encoder_stream::push`: what the ring's push did. Assumes nothing.
 use Rattle.encoder_stream.proofs.Applying.{pushed_by_lem}
-use borrow.Author.Rules.{rules}
 use Rattle.encoder_stream.proofs.push.Goals as goal
 
 pub returns : goal.returns

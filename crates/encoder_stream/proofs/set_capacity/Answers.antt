@@ -3,7 +3,6 @@ use mathlib.Core.Path.{sym, ap, ◌∙◌}
 use borrow.Author.Tests.{not-true, not-false}
 use Rattle.dynamic.specs.Calls.{tested}
 use Rattle.encoder_stream.proofs.Applying.{capacity_kept, capacity_blocked, capacity_set}
-use borrow.Author.Rules.{rules}
 use Rattle.encoder_stream.proofs.set_capacity.Goals as goal
 
 pub returns-in-Refused : goal.returns-in-Refused

@@ -2,7 +2,6 @@
 use Prim.Native.Nat.{◌-◌}
 use native.Mathlib.Omega.{arith}
 use Rattle.encoder_stream.proofs.Increments.{none_inserted, too_many, one_increment, never_refused}
-use borrow.Author.Rules.{rules}
 use Rattle.encoder_stream.proofs.write_increment.Goals as goal
 
 pub returns-then-after-before : goal.returns-then-after-before

@@ -1,6 +1,5 @@
 -- `entries::check`: each number that is out of range is refused; `walk` tells the rest. Assumes nothing.
 use mathlib.Core.Path.{sym, ◌∙◌}
-use borrow.Author.Rules.{rules}
 use borrow.Author.Tests.{le-leb, lt-leb, le-ltb}
 use Rattle.entries.specs.Rules.{keeps_rules}
 use Rattle.entries.proofs.Rules.{tested}

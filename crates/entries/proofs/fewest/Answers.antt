@@ -1,11 +1,8 @@
 -- `entries::fewest`: the loop keeps `Dropping`, whatever the starts are. Assumes nothing.
 use mathlib.Core.Path.{sym}
-use mathlib.Core.List.{List}
-use Prim.Native.Nat.{ℕ, ◌-◌, ◌≤◌}
 use native.Mathlib.Omega.{arith}
-use Rattle.entries.specs.Entry.{between}
 use Rattle.entries.proofs.Between.{length_between, between_next}
-use Rattle.entries.proofs.Dropping.{Dropping, start, enough, stuck, step}
+use Rattle.entries.proofs.Dropping.{start, enough, stuck, step}
 use Rattle.entries.proofs.fewest.Goals as goal
 
 pub minus-requires : goal.minus-requires

@@ -2,7 +2,7 @@
 use mathlib.Core.Path.{sym}
 use native.Mathlib.Omega.{arith}
 use borrow.Author.Tests.{le-leb, lt-leb}
-use Rattle.entries.proofs.Searching.{Searching, start, over, other_name, other, found}
+use Rattle.entries.proofs.Searching.{start, over, other_name, other, found}
 use Rattle.entries.proofs.newest.Goals as goal
 
 -- where the name's length is right, from where both numbers of the entry are known

@@ -1,8 +1,5 @@
 -- `entries::newest`: a short arena has no entry; in a long one the loop keeps `Searching`. Assumes nothing.
-use mathlib.Core.Path.{sym}
-use native.Mathlib.Omega.{arith}
-use borrow.Author.Tests.{le-leb, lt-leb}
-use Rattle.entries.proofs.Searching.{Searching, start, over, other_name, other, found}
+use Rattle.entries.proofs.Searching.{Searching}
 use Rattle.entries.proofs.newest.Given as goal
 
 abbrev pub invariant-loop-k : goal.invariant-loop-k

@@ -1,14 +1,13 @@
 -- `entries::walk`: the loop keeps `Walking`, and at its end the head and the size are left to compare. Assumes nothing.
 use mathlib.Core.Path.{◌≡◌, sym, ◌∙◌}
 use mathlib.Core.Bool.{◌&&◌}
-use Prim.Native.Nat.{◌-◌, ◌≤◌}
 use native.Mathlib.Omega.{arith}
 use lib.Dec.{eqb}
 use borrow.Author.Tests.{eq-eqb, ne_eqb}
 use Rattle.entries.specs.Entry.{between}
 use Rattle.entries.specs.Rules.{in_order}
 use Rattle.entries.proofs.Between.{length_between, between_next}
-use Rattle.entries.proofs.Walking.{Walking, start, off, step, done}
+use Rattle.entries.proofs.Walking.{start, off, step, done}
 use Rattle.entries.proofs.walk.Lts
 use Rattle.entries.proofs.walk.Reads
 use Rattle.entries.proofs.walk.Tie

@@ -1,6 +1,5 @@
 -- `field_lines::indexed_field`: both strings of the entry, or why there is none. Assumes nothing.
 use Rattle.field_lines.proofs.Laws.{indexed_read, indexed_inside, entry_fixed}
-use borrow.Author.Rules.{rules}
 use Rattle.field_lines.proofs.indexed_field.Goals as goal
 
 pub returns-in-Entry : goal.returns-in-Entry

@@ -1,7 +1,6 @@
 -- `field_lines::is_post_base`: each arm answers for its own kind. Assumes nothing.
 use mathlib.Core.Path.{sym, ap}
 use Rattle.field_lines.specs.Line.{is_post_base}
-use borrow.Author.Rules.{rules}
 use Rattle.field_lines.proofs.is_post_base.Goals as goal
 
 pub returns-in-LiteralWithPostBaseNameRef : goal.returns-in-LiteralWithPostBaseNameRef

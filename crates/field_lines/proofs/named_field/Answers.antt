@@ -1,6 +1,5 @@
 -- `field_lines::named_field`: the entry's name with the value of the section, or why there is none. Assumes nothing.
 use Rattle.field_lines.proofs.Laws.{named_read, named_inside, entry_fixed}
-use borrow.Author.Rules.{rules}
 use Rattle.field_lines.proofs.named_field.Goals as goal
 
 pub returns-in-Entry : goal.returns-in-Entry

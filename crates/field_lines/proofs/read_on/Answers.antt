@@ -6,7 +6,6 @@ use Rattle.block.specs.Lines.{line_at, line_read}
 use Rattle.block.proofs.Found.{line_lies}
 use Rattle.field_lines.specs.Line.{Live, entry_on, live_in, line_on}
 use Rattle.field_lines.proofs.Reading.{of_indexed, of_named, of_literal, of_refused}
-use borrow.Author.Rules.{rules}
 use Rattle.field_lines.proofs.read_on.Goals.{Start}
 use Rattle.field_lines.proofs.read_on.Goals as goal
 

@@ -5,7 +5,6 @@ use Rattle.block.specs.Lines.{line_at, line_read}
 use Rattle.block.proofs.Found.{line_lies}
 use Rattle.field_lines.specs.Line.{entry_static, field_of_line, is_post_base, line_static}
 use Rattle.field_lines.proofs.Reading.{of_indexed, of_named, of_literal, of_refused, static_ended, static_post_base, static_line}
-use borrow.Author.Rules.{rules}
 use Rattle.field_lines.proofs.read_static.Goals.{Else-is_post_base}
 use Rattle.field_lines.proofs.read_static.Goals as goal
 

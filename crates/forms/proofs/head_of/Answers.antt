@@ -2,7 +2,6 @@
 use native.Mathlib.Nat.{add-zero}
 use native.Mathlib.Omega.{arith}
 use Rattle.forms.proofs.Every.{width_high, flags_high}
-use borrow.Author.Rules.{rules}
 use Rattle.forms.proofs.head_of.Goals as goal
 
 pub overflow_shr-flags : goal.overflow_shr-flags

@@ -1,7 +1,6 @@
 -- `header_prefix::base_of`: below the count, above it, negative or past the largest. Assumes nothing.
 use native.Mathlib.Omega.{arith}
 use Rattle.header_prefix.proofs.Bases.{base_negative, base_below, base_past, base_above}
-use borrow.Author.Rules.{rules}
 use Rattle.header_prefix.proofs.base_of.Goals as goal
 
 pub returns-then-required-delta : goal.returns-then-required-delta

@@ -4,7 +4,6 @@ use native.Mathlib.Omega.{arith}
 use borrow.Author.Tests.{not-true, not-false}
 use Rattle.header_prefix.specs.Prefix.{required_count, base_found}
 use Rattle.header_prefix.proofs.Prefixes.{prefix_no_count, prefix_no_base, prefix_missing, prefix_whole}
-use borrow.Author.Rules.{rules}
 use Rattle.header_prefix.proofs.prefix_of.Goals as goal
 
 pub returns-then-not-count : goal.returns-then-not-count

@@ -3,7 +3,6 @@ use mathlib.Core.Path.{sym, ap, ◌∙◌}
 use native.Mathlib.Omega.{arith}
 use Rattle.prefix_int.specs.Integer.{int_read}
 use Rattle.header_prefix.proofs.Prefixes.{at_past, at_no_count, at_no_delta, at_both}
-use borrow.Author.Rules.{rules}
 use Rattle.header_prefix.proofs.read_prefix.Goals as goal
 
 pub returns-then-total-gt-LARGEST_COUNT : goal.returns-then-total-gt-LARGEST_COUNT

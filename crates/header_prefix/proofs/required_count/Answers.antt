@@ -2,7 +2,6 @@
 use mathlib.Core.Path.{refl, ◌∙◌}
 use native.Mathlib.Omega.{arith}
 use Rattle.header_prefix.proofs.Counts.{count_zero, count_past, count_unwrapped, count_lowered, count_whole, wrapped_le}
-use borrow.Author.Rules.{rules}
 use Rattle.header_prefix.proofs.required_count.Goals as goal
 
 pub returns-then-encoded-eq0 : goal.returns-then-encoded-eq0

@@ -5,7 +5,6 @@ use Rattle.forms.specs.declared.Kind.TheVariants.{Encoder}
 use Rattle.stream.specs.Instructions.{integer_read}
 use Rattle.stream.proofs.Found.{integer_behind}
 use Rattle.instructions.specs.Instruction.{of_kind}
-use borrow.Author.Rules.{rules}
 use Rattle.instructions.proofs.read_capacity.Goals as goal
 
 pub returns-in-Cut : goal.returns-in-Cut

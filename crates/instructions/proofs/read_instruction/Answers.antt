@@ -4,7 +4,6 @@ use Rattle.forms.specs.declared.EncoderInstruction.TheVariants.{Duplicate}
 use Rattle.forms.specs.declared.Kind.TheVariants.{Encoder}
 use Rattle.stream.proofs.Found.{past_end, integer_over}
 use Rattle.instructions.specs.Instruction.{of_kind, instruction_at}
-use borrow.Author.Rules.{rules}
 use Rattle.instructions.proofs.read_instruction.Goals as goal
 
 pub returns-then-s-at : goal.returns-then-s-at

@@ -3,7 +3,6 @@ use mathlib.Core.Path.{sym, ap, ◌∙◌}
 use Rattle.stream.specs.Instructions.{literal_read}
 use Rattle.stream.proofs.Found.{literal_found}
 use Rattle.instructions.specs.Instruction.{of_kind}
-use borrow.Author.Rules.{rules}
 use Rattle.instructions.proofs.read_literal.Goals as goal
 
 pub returns-in-Cut : goal.returns-in-Cut

@@ -3,7 +3,6 @@ use mathlib.Core.Path.{sym, ap, ◌∙◌}
 use Rattle.stream.specs.Instructions.{name_ref_read}
 use Rattle.stream.proofs.Found.{name_ref_found}
 use Rattle.instructions.specs.Instruction.{of_kind}
-use borrow.Author.Rules.{rules}
 use Rattle.instructions.proofs.read_name_ref.Goals as goal
 
 pub returns-in-Cut : goal.returns-in-Cut

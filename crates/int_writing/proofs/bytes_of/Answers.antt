@@ -5,7 +5,6 @@ use lib.ListN.{length}
 use Rattle.int_writing.specs.Octets.{encode, spell}
 use native.Mathlib.Omega.{arith}
 use Rattle.int_writing.proofs.Writing.{length_short, length_long}
-use borrow.Author.Rules.{rules}
 use Rattle.int_writing.proofs.bytes_of.Goals as goal
 
 pub returns-then-value-top : goal.returns-then-value-top

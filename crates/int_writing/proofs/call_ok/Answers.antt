@@ -1,6 +1,5 @@
 -- `int_writing::call_ok`: each return rewrites with the tests that led there. Assumes nothing.
 use borrow.Author.Tests.{lt-ltb, le-ltb}
-use borrow.Author.Rules.{rules}
 use Rattle.int_writing.proofs.call_ok.Goals as goal
 
 pub returns-then-width-lt1 : goal.returns-then-width-lt1

@@ -1,5 +1,4 @@
 -- `int_writing::power`: the law of a shift of one. Assumes nothing.
-use borrow.Author.Rules.{rules}
 use Rattle.int_writing.proofs.Powers.{one_shifted}
 use Rattle.int_writing.proofs.power.Goals as goal
 

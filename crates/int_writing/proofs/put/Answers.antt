@@ -1,10 +1,8 @@
 -- `int_writing::put`. The invariant: storing what is left to spell gives the list that storing all gives. Assumes nothing.
 use mathlib.Core.Path.{◌≡◌, refl, ◌∙◌}
-use Prim.Native.Nat.{ℕ, suc, ◌+◌, ◌*◌, ◌-◌, ◌/◌, ◌^◌, ◌≤◌, ◌<◌}
+use Prim.Native.Nat.{suc, ◌-◌, ◌/◌}
 use native.Mathlib.Omega.{arith}
 use lib.ListN.{length, length-set}
-use lib.Seq.{sets}
-use borrow.Author.Rules.{rules}
 use Rattle.int_writing.specs.Octets.{spell}
 use Rattle.int_writing.proofs.Writing.{length_last, length_more, put_last, put_more, spell_fits}
 use Rattle.int_writing.proofs.put.Lts

@@ -3,7 +3,6 @@ use mathlib.Core.Path.{◌≡◌, sym, ap, ◌∙◌}
 use mathlib.Core.Bool.{true}
 use native.Mathlib.Omega.{arith}
 use borrow.Author.Tests.{not-true, not-false}
-use borrow.Author.Rules.{rules}
 use Rattle.answers.specs.Answer.{done}
 use Rattle.int_writing.specs.Octets.{good_call}
 use Rattle.int_writing.proofs.Writing.{call_good, bytes_bad, bytes_large, bytes_good}

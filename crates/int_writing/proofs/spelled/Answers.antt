@@ -3,7 +3,6 @@ use mathlib.Core.Path.{sym}
 use native.Mathlib.Omega.{arith}
 use lib.Count.{leading_le}
 use Rattle.int_writing.proofs.Writing.{length_last, spelled_law}
-use borrow.Author.Rules.{rules}
 use Rattle.int_writing.proofs.spelled.Goals as goal
 
 pub returns-then-rest-lt128 : goal.returns-then-rest-lt128

@@ -3,7 +3,6 @@ use mathlib.Core.Path.{◌≡◌, ◌∙◌}
 use Prim.Native.Nat.{ℕ, suc, ◌+◌, ◌-◌, ◌*◌, ◌≤◌, ◌<◌}
 use native.Mathlib.Omega.{arith}
 use lib.ListN.{length, length-set}
-use borrow.Author.Rules.{rules}
 use Rattle.int_writing.specs.Octets.{encode, spell}
 use Rattle.int_writing.proofs.Writing.{first_fits, encode_short, length_short, length_long, store_long}
 use Rattle.int_writing.proofs.store.Lts

@@ -5,7 +5,6 @@ use Prim.Native.Nat.{◌+◌}
 use native.Mathlib.Omega.{arith}
 use lib.ListN.{length}
 use borrow.Author.Tests.{not-true, not-false}
-use borrow.Author.Rules.{rules}
 use Rattle.answers.specs.Answer.{done}
 use Rattle.answers.specs.declared.Refusal.TheVariants.{BadCall, CountTooLarge}
 use Rattle.answers.proofs.Write.{writes_refused, writes_full, writes_next}

@@ -5,7 +5,6 @@ use Prim.Native.Nat.{ℕ, ◌-◌}
 use Rattle.vas.proofs.Positions.{named_below, post_base_below}
 use Rattle.line_entries.specs.Entry.{Live, entry_on, live_at, live_in}
 use Rattle.line_entries.proofs.Laws.{position_live}
-use borrow.Author.Rules.{rules}
 use Rattle.line_entries.proofs.entry_on.Goals.{Start}
 use Rattle.line_entries.proofs.entry_on.Goals as goal
 

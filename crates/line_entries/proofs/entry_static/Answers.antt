@@ -1,7 +1,6 @@
 -- `line_entries::entry_static`: an entry of the static table; a dynamic reference is refused. Assumes nothing.
 use mathlib.Core.Path.{sym, ap, ◌∙◌}
 use Rattle.line_entries.specs.Entry.{entry_static}
-use borrow.Author.Rules.{rules}
 use Rattle.line_entries.proofs.entry_static.Goals as goal
 
 pub returns-in-Static : goal.returns-in-Static

@@ -2,7 +2,6 @@
 use Prim.Native.Nat.{◌-◌, ◌<◌}
 use native.Mathlib.Omega.{arith}
 use Rattle.line_entries.proofs.Laws.{live_done}
-use borrow.Author.Rules.{rules}
 use Rattle.line_entries.proofs.live_entry.Goals as goal
 
 pub overflow_add-i : goal.overflow_add-i

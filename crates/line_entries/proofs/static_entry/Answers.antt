@@ -4,7 +4,6 @@ use native.Mathlib.Omega.{arith}
 use Rattle.static_table.specs.Static.{got}
 use Rattle.static_table.proofs.Table.{entry_placed, size}
 use Rattle.line_entries.proofs.Laws.{static_done, static_refused}
-use borrow.Author.Rules.{rules}
 use Rattle.line_entries.proofs.static_entry.Goals as goal
 
 pub overflow_add-result : goal.overflow_add-result

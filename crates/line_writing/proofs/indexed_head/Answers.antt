@@ -1,7 +1,6 @@
 -- `line_writing::indexed_head`: the head of the kind of each reference. Assumes nothing.
 use mathlib.Core.Path.{sym, ap, ◌∙◌}
 use Rattle.line_writing.specs.Bytes.{indexed_head}
-use borrow.Author.Rules.{rules}
 use Rattle.line_writing.proofs.indexed_head.Goals as goal
 
 pub returns-in-Static : goal.returns-in-Static

@@ -1,7 +1,6 @@
 -- `line_writing::named_head`: the head of the kind of each reference. Assumes nothing.
 use mathlib.Core.Path.{sym, ap, ◌∙◌}
 use Rattle.line_writing.specs.Bytes.{named_head}
-use borrow.Author.Rules.{rules}
 use Rattle.line_writing.proofs.named_head.Goals as goal
 
 pub returns-in-Static : goal.returns-in-Static

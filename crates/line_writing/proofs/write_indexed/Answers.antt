@@ -1,6 +1,5 @@
 -- `line_writing::write_indexed`: the head of the reference, and then its index. Assumes nothing.
 use Rattle.line_writing.specs.Bytes.{indexed_bytes}
-use borrow.Author.Rules.{rules}
 use Rattle.line_writing.proofs.write_indexed.Goals as goal
 
 pub returns : goal.returns

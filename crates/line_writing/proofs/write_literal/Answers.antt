@@ -1,6 +1,5 @@
 -- `line_writing::write_literal`: the head of the kind above H, and then both strings. Assumes nothing.
 use Rattle.line_writing.specs.Bytes.{literal_bytes}
-use borrow.Author.Rules.{rules}
 use Rattle.line_writing.proofs.write_literal.Goals as goal
 
 pub returns : goal.returns

@@ -1,6 +1,5 @@
 -- `line_writing::write_named`: the head of the reference, and then its index and the value. Assumes nothing.
 use Rattle.line_writing.specs.Bytes.{named_bytes}
-use borrow.Author.Rules.{rules}
 use Rattle.line_writing.proofs.write_named.Goals as goal
 
 pub returns : goal.returns

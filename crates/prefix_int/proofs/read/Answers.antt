@@ -10,7 +10,6 @@ use Rattle.int_writing.proofs.Powers.{one_shifted}
 use Rattle.int_writing.proofs.Writing.{call_good}
 use Rattle.prefix_int.specs.Integer.{good_call}
 use Rattle.prefix_int.proofs.Reading.{first_end, first_short, first_long}
-use borrow.Author.Rules.{rules}
 use Rattle.prefix_int.proofs.read.Lts
 use Rattle.prefix_int.proofs.read.Reads
 use Rattle.prefix_int.proofs.read.Tie

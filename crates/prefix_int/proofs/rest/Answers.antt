@@ -1,10 +1,8 @@
 -- `prefix_int::rest`. The invariant: what the groups from here give is what they give from the start. Assumes nothing.
-use mathlib.Core.Path.{◌≡◌, refl, sym, ◌∙◌}
+use mathlib.Core.Path.{refl, sym, ◌∙◌}
 use Prim.Native.Nat.{ℕ, ◌+◌, ◌*◌, ◌%◌, ◌^◌, ◌≤◌, ◌<◌}
 use native.Mathlib.Omega.{arith}
-use lib.ListN.{get_or, drop}
-use borrow.Author.Rules.{rules}
-use Rattle.prefix_int.specs.Integer.{groups}
+use lib.ListN.{get_or}
 use Rattle.prefix_int.proofs.Reading.{groups_over, groups_end, groups_last, groups_more, weight_le, digit_le, weight_next}
 use Rattle.prefix_int.proofs.rest.Lts
 use Rattle.prefix_int.proofs.rest.Reads

@@ -1,7 +1,6 @@
 -- `prefix_string::plain_at`: what the length's read answers, and then the test that led to each return. Assumes nothing.
 use mathlib.Core.Path.{◌≡◌, sym, ap, ◌∙◌}
 use borrow.Author.Tests.{lt-ltb, le-ltb}
-use borrow.Author.Rules.{rules}
 use Rattle.answers.specs.Answer.{done}
 use Rattle.prefix_int.specs.Integer.{int_at, int_read}
 use Rattle.prefix_int.proofs.Bounds.{found}

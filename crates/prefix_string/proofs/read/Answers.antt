@@ -2,7 +2,6 @@
 use mathlib.Core.Path.{◌≡◌, sym, ◌∙◌}
 use mathlib.Core.Bool.{true}
 use borrow.Author.Tests.{not-true, not-false}
-use borrow.Author.Rules.{rules}
 use Rattle.text_writing.proofs.Laws.{text_good}
 use Rattle.prefix_string.specs.Text.{good_text}
 use Rattle.prefix_string.proofs.Reading.{text_bad, text_end, text_huffman, text_plain}

@@ -1,6 +1,5 @@
 -- `qpack_table::main`: a fresh table keeps its rules, and so does the one after the stream. Assumes nothing.
 use Rattle.qpack_table.proofs.Usable.{fresh_keeps}
-use borrow.Author.Rules.{rules}
 use Rattle.qpack_table.proofs.main.Goals as goal
 
 pub say-requires : goal.say-requires

@@ -1,7 +1,6 @@
 -- `qpack_table::number_of`: a refusal has its number. Assumes nothing.
 use mathlib.Core.Path.{sym, ap, ◌∙◌}
 use Rattle.qpack_table.specs.Text.{number_in}
-use borrow.Author.Rules.{rules}
 use Rattle.qpack_table.proofs.number_of.Goals as goal
 
 pub returns-in-Refused : goal.returns-in-Refused

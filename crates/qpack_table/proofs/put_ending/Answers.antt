@@ -3,7 +3,6 @@ use mathlib.Core.List.{◌++◌}
 use native.Mathlib.Omega.{arith}
 use Rattle.qpack_table.specs.Text.{consumed_word, answer_word, space, newline, told}
 use Rattle.qpack_table.proofs.Putting.{puts, puts_then, puts_spaced}
-use borrow.Author.Rules.{rules}
 use Rattle.qpack_table.proofs.put_ending.Goals as goal
 
 pub returns : goal.returns

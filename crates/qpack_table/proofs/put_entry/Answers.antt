@@ -5,7 +5,6 @@ use native.Mathlib.Omega.{arith}
 use Rattle.field.specs.Field.{overhead}
 use Rattle.qpack_table.specs.Text.{space, newline, decimal}
 use Rattle.qpack_table.proofs.Putting.{puts, puts_then, puts_spaced}
-use borrow.Author.Rules.{rules}
 use Rattle.qpack_table.proofs.put_entry.Goals as goal
 
 pub returns : goal.returns

@@ -7,7 +7,6 @@ use lib.ListN.{length, take}
 use lib.Seq.{sets}
 use Rattle.qpack_table.specs.Text.{decimal}
 use Rattle.qpack_table.proofs.Digits.{at_most_20, decimal_is}
-use borrow.Author.Rules.{rules}
 use Rattle.qpack_table.proofs.put_number.Goals.{After-decimal-k}
 use Rattle.qpack_table.proofs.put_number.Goals as goal
 

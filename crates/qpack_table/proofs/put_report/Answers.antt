@@ -6,7 +6,6 @@ use native.Mathlib.Omega.{arith}
 use Rattle.ring.specs.Ring.{live}
 use Rattle.qpack_table.specs.Text.{heading, newline, counts, entry_lines, ending, report_of}
 use Rattle.qpack_table.proofs.Putting.{puts, puts_then}
-use borrow.Author.Rules.{rules}
 use Rattle.qpack_table.proofs.put_report.Goals as goal
 
 pub returns : goal.returns

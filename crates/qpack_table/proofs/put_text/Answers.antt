@@ -1,6 +1,5 @@
 -- `qpack_table::put_text`: there is room, so the whole text is stored. Assumes nothing.
 use mathlib.Core.Path.{refl}
-use borrow.Author.Rules.{rules}
 use Rattle.byte_writing.proofs.Stretch.{text_sets}
 use Rattle.qpack_table.proofs.put_text.Goals as goal
 

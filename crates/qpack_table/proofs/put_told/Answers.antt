@@ -2,7 +2,6 @@
 use native.Mathlib.Omega.{arith}
 use Rattle.qpack_table.proofs.Putting.{puts, puts_then}
 use Rattle.qpack_table.specs.Text.{space, decimal}
-use borrow.Author.Rules.{rules}
 use Rattle.qpack_table.proofs.put_told.Goals as goal
 
 pub returns : goal.returns

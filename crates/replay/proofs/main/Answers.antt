@@ -1,9 +1,6 @@
 -- `replay::main`: the tables stay four, and the commands that are left fall. Assumes nothing.
 use native.Mathlib.Omega.{arith}
-use borrow.Author.Rules.{rules}
-use Prim.Native.Nat.{◌≤◌, ◌-◌}
-use mathlib.Core.Path.{◌≡◌}
-use lib.ListN.{length, length-set}
+use lib.ListN.{length-set}
 use Rattle.replay.proofs.main.Goals as goal
 
 pub loop-made-smaller-then-group-eq-OF_TWO : goal.loop-made-smaller-then-group-eq-OF_TWO

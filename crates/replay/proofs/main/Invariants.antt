@@ -1,9 +1,7 @@
 -- `replay::main`: the tables stay four, and the commands that are left fall. Assumes nothing.
-use native.Mathlib.Omega.{arith}
-use borrow.Author.Rules.{rules}
 use Prim.Native.Nat.{◌≤◌, ◌-◌}
 use mathlib.Core.Path.{◌≡◌}
-use lib.ListN.{length, length-set}
+use lib.ListN.{length}
 use Rattle.replay.proofs.main.Given as goal
 
 abbrev pub invariant-loop-made : goal.invariant-loop-made

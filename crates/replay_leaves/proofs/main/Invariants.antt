@@ -1,5 +1,4 @@
 -- `replay_leaves::main`: the commands that are left fall. Assumes nothing.
-use borrow.Author.Rules.{rules}
 use Prim.Native.Nat.{◌≤◌, ◌-◌}
 use Rattle.replay_leaves.proofs.main.Given as goal
 

@@ -1,5 +1,4 @@
 -- `ring::entry_at`: the three numbers of a slot. Assumes nothing.
-use borrow.Author.Rules.{rules}
 use Rattle.ring.proofs.entry_at.Goals as goal
 
 pub returns : goal.returns

@@ -2,7 +2,6 @@
 use mathlib.Core.Path.{sym, ap, ◌∙◌}
 use Prim.Native.Nat.{◌-◌, ◌<◌}
 use native.Mathlib.Omega.{arith}
-use borrow.Author.Rules.{rules}
 use Rattle.entries.specs.Entry.{Entry}
 use Rattle.entries.proofs.Between.{between_at}
 use Rattle.ring.proofs.Sources.{name_live, copy_live}

@@ -1,6 +1,5 @@
 -- `ring::is_live`: by the source. Assumes nothing.
 use mathlib.Core.Path.{sym, ap}
-use borrow.Author.Rules.{rules}
 use Rattle.ring.specs.Ring.{live_in}
 use Rattle.ring.proofs.is_live.Goals as goal
 

@@ -1,5 +1,4 @@
 -- `ring::place`: by the source, the calls that put the strings to the head. Assumes nothing.
-use borrow.Author.Rules.{rules}
 use Rattle.ring.proofs.Placing.{written, name_first, copied}
 use Rattle.ring.proofs.place.Goals as goal
 

@@ -1,8 +1,5 @@
 -- `script_calls::copy_arena`: the arenas keep their length. Assumes nothing.
-use borrow.Author.Rules.{rules}
-use Prim.Native.Nat.{◌≤◌, ◌-◌}
-use mathlib.Core.Path.{◌≡◌}
-use lib.ListN.{length, length-set}
+use lib.ListN.{length-set}
 use native.Mathlib.Omega.{arith}
 use Rattle.script_calls.proofs.copy_arena.Goals as goal
 

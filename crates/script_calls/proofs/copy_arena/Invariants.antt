@@ -1,9 +1,7 @@
 -- `script_calls::copy_arena`: the arenas keep their length. Assumes nothing.
-use borrow.Author.Rules.{rules}
 use Prim.Native.Nat.{◌≤◌, ◌-◌}
 use mathlib.Core.Path.{◌≡◌}
-use lib.ListN.{length, length-set}
-use native.Mathlib.Omega.{arith}
+use lib.ListN.{length}
 use Rattle.script_calls.proofs.copy_arena.Given as goal
 
 abbrev pub invariant-loop-i : goal.invariant-loop-i

@@ -1,5 +1,4 @@
 -- `script_compare::places_differ`: the index stays within the places. Assumes nothing.
-use borrow.Author.Rules.{rules}
 use Prim.Native.Nat.{◌≤◌, ◌-◌}
 use Rattle.script_compare.proofs.places_differ.Given as goal
 

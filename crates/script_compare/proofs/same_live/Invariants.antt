@@ -1,5 +1,4 @@
 -- `script_compare::same_live`: both slots stay within the ring. Assumes nothing.
-use borrow.Author.Rules.{rules}
 use Prim.Native.Nat.{◌<◌}
 use Rattle.script_compare.proofs.same_live.Given as goal
 

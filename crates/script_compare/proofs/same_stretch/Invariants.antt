@@ -1,5 +1,4 @@
 -- `script_compare::same_stretch`: the positions stay within the rings. Assumes nothing.
-use borrow.Author.Rules.{rules}
 use Prim.Native.Nat.{◌<◌}
 use Rattle.script_compare.proofs.same_stretch.Given as goal
 

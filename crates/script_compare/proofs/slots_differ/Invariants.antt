@@ -1,5 +1,4 @@
 -- `script_compare::slots_differ`: the index stays within the slots. Assumes nothing.
-use borrow.Author.Rules.{rules}
 use Prim.Native.Nat.{◌≤◌, ◌-◌}
 use Rattle.script_compare.proofs.slots_differ.Given as goal
 

@@ -1,5 +1,4 @@
 -- `script_compare::uses_differ`: the index stays within the uses. Assumes nothing.
-use borrow.Author.Rules.{rules}
 use Prim.Native.Nat.{◌≤◌, ◌-◌}
 use Rattle.script_compare.proofs.uses_differ.Given as goal
 

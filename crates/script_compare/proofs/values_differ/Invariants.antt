@@ -1,5 +1,4 @@
 -- `script_compare::values_differ`: the index stays within the values. Assumes nothing.
-use borrow.Author.Rules.{rules}
 use Prim.Native.Nat.{◌≤◌, ◌-◌}
 use Rattle.script_compare.proofs.values_differ.Given as goal
 

@@ -4,7 +4,6 @@ use borrow.Author.Tests.{not-true, not-false}
 use Rattle.dynamic.specs.Record.{sound}
 use Rattle.dynamic.proofs.Told.{told_sound}
 use Rattle.section_steps.proofs.Starting.{on_short, on_started, on_broken, on_open, on_prefix}
-use borrow.Author.Rules.{rules}
 use Rattle.section_steps.proofs.begin_on.Goals.{After-checked-check}
 use Rattle.section_steps.proofs.begin_on.Goals as goal
 

@@ -1,6 +1,5 @@
 -- `section_steps::begin_stateless`: what the prefix gives with no table. Assumes nothing.
 use Rattle.section_steps.proofs.Starting.{stateless_started, stateless_prefix}
-use borrow.Author.Rules.{rules}
 use Rattle.section_steps.proofs.begin_stateless.Goals as goal
 
 pub returns-then-c : goal.returns-then-c

@@ -1,13 +1,11 @@
 -- `section_steps::copy_field`: one copy where the value stands behind the name in the static table, else two. Assumes nothing.
 use mathlib.Core.Path.{◌≡◌, sym, ◌∙◌}
-use mathlib.Core.Logic.{⊎_elim}
 use Prim.Native.Nat.{◌+◌, ◌≤◌}
 use native.Mathlib.Omega.{arith}
 use lib.ListN.{length}
 use Rattle.field_lines.specs.Line.{TextInside}
 use Rattle.section_steps.specs.Section.{length_of, Ready}
 use Rattle.section_steps.proofs.Copying.{same_ready, parts_copied, fixed_end, fixed_room, whole_copied}
-use borrow.Author.Rules.{rules}
 use Rattle.section_steps.proofs.copy_field.Goals.{Joined-name, in-Fixed+in-Fixed-value+else-start-len, in-Fixed+in_default-value, in_default}
 use Rattle.section_steps.proofs.copy_field.Goals as goal
 
@@ -16,9 +14,9 @@ use Rattle.section_steps.proofs.copy_field.Goals as goal
 same_texts : (c : Joined-name) → (c.match-name.name ≡ c.args.name) × (c.match-name.value ≡ c.args.value)
 same_texts c =
     elim c.match-name.branch [
-      in-Fixed+in-Fixed-value+else-start-len w ↦ (w.name-is ∙ sym w.in-Fixed.is, w.value-is ∙ sym w.in-Fixed-value.is)
-    | in-Fixed+in_default-value w ↦ (w.name-is ∙ sym w.in-Fixed.is, w.value-is)
-    | in_default w ↦ (w.name-is, w.value-is)
+      | in-Fixed+in-Fixed-value+else-start-len w ↦ (w.name-is ∙ sym w.in-Fixed.is, w.value-is ∙ sym w.in-Fixed-value.is)
+      | in-Fixed+in_default-value w ↦ (w.name-is ∙ sym w.in-Fixed.is, w.value-is)
+      | in_default w ↦ (w.name-is, w.value-is)
     ]
 
 -- so what was required holds of them here

@@ -1,7 +1,6 @@
 -- `section_steps::copy_text`: by where the string stands. Assumes nothing.
 use lib.ListN.{length}
 use Rattle.section_steps.proofs.Copying.{input_copied, fixed_copied, stored_copied}
-use borrow.Author.Rules.{rules}
 use Rattle.section_steps.proofs.copy_text.Goals as goal
 
 pub returns-in-Input : goal.returns-in-Input

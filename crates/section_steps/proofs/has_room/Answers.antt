@@ -3,7 +3,6 @@ use mathlib.Core.Path.{◌∙◌}
 use Prim.Native.Nat.{◌+◌}
 use native.Mathlib.Omega.{arith}
 use Rattle.section_steps.proofs.Sizes.{list_full, buffer_full, fits_so_far, not_past}
-use borrow.Author.Rules.{rules}
 use Rattle.section_steps.proofs.has_room.Goals as goal
 
 pub returns-then-room-c : goal.returns-then-room-c

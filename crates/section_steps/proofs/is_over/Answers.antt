@@ -1,7 +1,6 @@
 -- `section_steps::is_over`: by the limit, if there is one. Assumes nothing.
 use mathlib.Core.Path.{sym, ◌∙◌}
 use Rattle.section_steps.proofs.Sizes.{over_by}
-use borrow.Author.Rules.{rules}
 use Rattle.section_steps.proofs.is_over.Goals as goal
 
 pub returns-in-Most : goal.returns-in-Most

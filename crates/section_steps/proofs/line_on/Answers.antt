@@ -3,7 +3,6 @@ use borrow.Author.Tests.{le-leb}
 use Rattle.field_lines.specs.Line.{Live, live_in}
 use Rattle.section_steps.proofs.Lines.{in_short, in_ended, in_placed}
 use Rattle.section_steps.proofs.Stepping.{ready_on}
-use borrow.Author.Rules.{rules}
 use Rattle.section_steps.proofs.line_on.Goals.{Start}
 use Rattle.section_steps.proofs.line_on.Goals as goal
 

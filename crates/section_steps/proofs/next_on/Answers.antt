@@ -3,7 +3,6 @@ use mathlib.Core.Path.{sym, ap, ◌∙◌}
 use Rattle.section_steps.specs.Section.{on_table, begun_by}
 use Rattle.section_steps.proofs.Lines.{next_in}
 use Rattle.section_steps.proofs.Stepping.{next_refused}
-use borrow.Author.Rules.{rules}
 use Rattle.section_steps.proofs.next_on.Goals as goal
 
 -- the call's start

@@ -5,7 +5,6 @@ use Rattle.answers.specs.Answer.{done}
 use Rattle.section_steps.specs.Section.{stateless, begun_by, cursor_at}
 use Rattle.section_steps.proofs.Lines.{line_static_lem}
 use Rattle.section_steps.proofs.Stepping.{ready_static, next_refused, next_ended, next_placed}
-use borrow.Author.Rules.{rules}
 use Rattle.section_steps.proofs.next_stateless.Goals.{In-At}
 use Rattle.section_steps.proofs.next_stateless.Goals as goal
 

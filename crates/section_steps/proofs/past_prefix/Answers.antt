@@ -4,7 +4,6 @@ use Rattle.answers.specs.Answer.{Answer, done, and_then}
 use Rattle.header_prefix.specs.Prefix.{Prefix, prefix_read}
 use Rattle.section_steps.specs.Section.{begun}
 use Rattle.section_steps.specs.declared.Cursor.{Cursor}
-use borrow.Author.Rules.{rules}
 use Rattle.section_steps.proofs.past_prefix.Goals as goal
 
 pub returns-in-Refused : goal.returns-in-Refused

@@ -8,7 +8,6 @@ use borrow.Author.Tests.{not-true, not-false}
 use Rattle.field.specs.Field.{overhead}
 use Rattle.section_steps.specs.Section.{limit_of, is_over, fits}
 use Rattle.section_steps.proofs.Placing.{Fits, fits_facts, line_ready, place_refused, place_over, place_full, place_found}
-use borrow.Author.Rules.{rules}
 use Rattle.section_steps.proofs.place.Goals.{Else-is_over, Else-not-has_room}
 use Rattle.section_steps.proofs.place.Goals as goal
 

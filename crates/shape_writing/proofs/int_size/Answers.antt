@@ -1,7 +1,6 @@
 -- `shape_writing::int_size`: a bad call is refused first; then the flags do not matter. Assumes nothing.
 use mathlib.Core.Path.{sym, ◌∙◌}
 use borrow.Author.Tests.{not-true, not-false}
-use borrow.Author.Rules.{rules}
 use Rattle.int_writing.proofs.Writing.{bytes_bad}
 use Rattle.shape_writing.proofs.Laws.{size_flags}
 use Rattle.shape_writing.proofs.int_size.Goals as goal

@@ -2,7 +2,6 @@
 use mathlib.Core.Path.{◌≡◌, sym, ap, ◌∙◌}
 use Prim.Native.Nat.{ℕ}
 use native.Mathlib.Omega.{arith}
-use borrow.Author.Rules.{rules}
 use Rattle.prefix_int.specs.Integer.{int_size}
 use Rattle.text_writing.proofs.Laws.{text_size_lem, text_of}
 use Rattle.shape_writing.specs.Joined.{value_width}

@@ -3,7 +3,6 @@ use mathlib.Core.Path.{◌≡◌, sym, ap, ◌∙◌}
 use Prim.Native.Nat.{◌+◌, ◌≤◌}
 use native.Mathlib.Omega.{arith}
 use lib.ListN.{length}
-use borrow.Author.Rules.{rules}
 use borrow.Author.Tests.{not-true, not-false, leb-true, leb-false}
 use Rattle.answers.specs.Answer.{done, and_then}
 use Rattle.prefix_int.specs.Integer.{int_bytes, int_size}

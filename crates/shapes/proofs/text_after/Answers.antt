@@ -1,6 +1,5 @@
 -- `shapes::text_after`: a refusal goes through; else what the value's read answers. Assumes nothing.
 use mathlib.Core.Path.{◌≡◌, sym, ap, ◌∙◌}
-use borrow.Author.Rules.{rules}
 use Rattle.answers.specs.Answer.{done}
 use Rattle.prefix_string.specs.Text.{text_at, text_read}
 use Rattle.shapes.specs.Shapes.{value_width, text_after}

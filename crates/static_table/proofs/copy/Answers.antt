@@ -1,6 +1,5 @@
 -- `static_table::copy`: the bytes are the table's, so what is written is a stretch of it. Assumes nothing.
 use Rattle.static_table.proofs.Copied.{copied}
-use borrow.Author.Rules.{rules}
 use Rattle.static_table.proofs.copy.Goals as goal
 
 pub returns : goal.returns

@@ -5,7 +5,6 @@ use lib.ListN.{length}
 use borrow.Author.Tests.{not-true, not-false}
 use Rattle.field.specs.Field.{same}
 use Rattle.static_table.proofs.Table.{size, name_inside, value_inside, value_cut}
-use borrow.Author.Rules.{rules}
 use Rattle.static_table.proofs.field_is.Goals as goal
 
 pub returns-then-not-name_is : goal.returns-then-not-name_is

@@ -3,7 +3,6 @@ use mathlib.Core.Path.{refl}
 use native.Mathlib.Omega.{arith}
 use Rattle.static_table.specs.AppendixA.{appendix_a}
 use Rattle.static_table.proofs.Table.{arrays, entry_done, entry_refused}
-use borrow.Author.Rules.{rules}
 use Rattle.static_table.proofs.get.Goals as goal
 
 pub returns-then-index : goal.returns-then-index

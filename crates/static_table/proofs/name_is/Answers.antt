@@ -2,7 +2,6 @@
 use mathlib.Core.Path.{ap, ◌∙◌}
 use Rattle.field.specs.Field.{same}
 use Rattle.static_table.proofs.Table.{name_inside, name_cut}
-use borrow.Author.Rules.{rules}
 use Rattle.static_table.proofs.name_is.Goals as goal
 
 pub text_is-requires : goal.text_is-requires

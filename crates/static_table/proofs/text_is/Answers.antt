@@ -1,11 +1,7 @@
 -- `static_table::text_is`. The invariant: what is left of both compares as the whole does. Assumes nothing.
-use mathlib.Core.Path.{◌≡◌, refl, sym, ◌∙◌}
-use Prim.Native.Nat.{◌-◌, ◌≤◌}
+use mathlib.Core.Path.{refl, sym, ◌∙◌}
 use native.Mathlib.Omega.{arith}
-use lib.ListN.{drop}
 use borrow.Author.Rules.{rules}
-use Rattle.field.specs.Field.{same}
-use Rattle.byte_writing.proofs.Stretch.{cut}
 use Rattle.static_table.proofs.Text.{other_length, same_byte, other_byte, same_end}
 use Rattle.static_table.proofs.text_is.Goals as goal
 

@@ -3,7 +3,6 @@ use mathlib.Core.Path.{refl, sym, ap, ◌∙◌}
 use Rattle.answers.proofs.Cut.{cut_whole, cut_past, cut_early, cut_refused}
 use Rattle.prefix_int.specs.Integer.{int_read}
 use Rattle.stream.specs.Instructions.{kind_int, within_limit, integer_at}
-use borrow.Author.Rules.{rules}
 use Rattle.stream.proofs.read_integer.Goals as goal
 
 pub returns-then-past_limit : goal.returns-then-past_limit

@@ -5,7 +5,6 @@ use Rattle.answers.proofs.Cut.{cut_whole, cut_early, cut_refused}
 use Rattle.forms.specs.declared.Form.{Form}
 use Rattle.shapes.specs.Shapes.{TwoTexts, texts_at, texts_read}
 use Rattle.stream.specs.Instructions.{literal, literal_at}
-use borrow.Author.Rules.{rules}
 use Rattle.stream.proofs.read_literal.Goals as goal
 
 pub returns-then-ends_early : goal.returns-then-ends_early

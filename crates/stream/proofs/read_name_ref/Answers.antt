@@ -6,7 +6,6 @@ use Rattle.forms.specs.declared.EncoderInstruction.TheVariants.{InsertWithNameRe
 use Rattle.forms.specs.declared.Kind.TheVariants.{Encoder}
 use Rattle.shapes.specs.Shapes.{IntText, text_after, int_text_read}
 use Rattle.stream.specs.Instructions.{kind_int, name_ref, name_ref_at}
-use borrow.Author.Rules.{rules}
 use Rattle.stream.proofs.read_name_ref.Goals as goal
 
 pub returns-then-ends_early : goal.returns-then-ends_early

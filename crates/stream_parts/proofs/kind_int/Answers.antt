@@ -4,7 +4,6 @@ use native.Mathlib.Omega.{arith}
 use Rattle.prefix_int.specs.Integer.{int_read}
 use Rattle.prefix_int.proofs.Bounds.{found}
 use Rattle.stream_parts.proofs.Reading.{kind_refused, kind_same, kind_other}
-use borrow.Author.Rules.{rules}
 use Rattle.stream_parts.proofs.kind_int.Goals as goal
 
 pub bounds-s-at : goal.bounds-s-at

@@ -1,5 +1,4 @@
 -- `stream_parts::past_limit`: only an increment has a limit. Assumes nothing.
-use borrow.Author.Rules.{rules}
 use Rattle.stream_parts.proofs.past_limit.Goals as goal
 
 pub returns-in-InsertCountIncrement : goal.returns-in-InsertCountIncrement

@@ -1,6 +1,5 @@
 -- `stream_parts::write_integer`: the head of the kind, and then the integer. Assumes nothing.
 use Rattle.stream_parts.specs.Parts.{integer_bytes}
-use borrow.Author.Rules.{rules}
 use Rattle.stream_parts.proofs.write_integer.Goals as goal
 
 pub returns : goal.returns

@@ -1,6 +1,5 @@
 -- `stream_parts::write_literal`: the head of the kind above H, and then both strings. Assumes nothing.
 use Rattle.stream_parts.specs.Parts.{literal_bytes}
-use borrow.Author.Rules.{rules}
 use Rattle.stream_parts.proofs.write_literal.Goals as goal
 
 pub returns : goal.returns

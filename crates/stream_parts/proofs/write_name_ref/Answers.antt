@@ -1,6 +1,5 @@
 -- `stream_parts::write_name_ref`: the head of the kind with T, and then the index and the value. Assumes nothing.
 use Rattle.stream_parts.specs.Parts.{name_ref_bytes}
-use borrow.Author.Rules.{rules}
 use Rattle.stream_parts.proofs.write_name_ref.Goals as goal
 
 pub returns : goal.returns

@@ -3,7 +3,6 @@ use mathlib.Core.Path.{◌≡◌, sym, ◌∙◌}
 use mathlib.Core.Bool.{true}
 use native.Mathlib.Omega.{arith}
 use borrow.Author.Tests.{not-true, not-false}
-use borrow.Author.Rules.{rules}
 use Rattle.prefix_int.specs.Integer.{good_call}
 use Rattle.int_writing.proofs.Writing.{call_good}
 use Rattle.text_writing.proofs.call_ok.Lts

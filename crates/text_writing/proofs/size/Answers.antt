@@ -3,7 +3,6 @@ use mathlib.Core.Path.{◌≡◌, sym, ap, ◌∙◌}
 use mathlib.Core.Bool.{true}
 use native.Mathlib.Omega.{arith}
 use borrow.Author.Tests.{not-true, not-false}
-use borrow.Author.Rules.{rules}
 use Rattle.answers.specs.Answer.{done}
 use Rattle.prefix_int.specs.Integer.{size_of, int_size}
 use Rattle.prefix_int.proofs.Bounds.{encode_most}

@@ -6,7 +6,6 @@ use native.Mathlib.Omega.{arith}
 use lib.ListN.{length, length-append}
 use lib.Pow.{pow_mono}
 use lib.Seq.{sets}
-use borrow.Author.Rules.{rules}
 use Rattle.answers.specs.declared.Written.TheVariants.{Next}
 use Rattle.answers.proofs.Write.{sets_append}
 use Rattle.byte_writing.proofs.Stretch.{text_sets}

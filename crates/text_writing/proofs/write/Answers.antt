@@ -2,7 +2,6 @@
 use mathlib.Core.Path.{sym, ap, ◌∙◌}
 use Prim.Native.Nat.{◌+◌}
 use native.Mathlib.Omega.{arith}
-use borrow.Author.Rules.{rules}
 use Rattle.answers.proofs.Write.{writes_refused, writes_full, writes_next}
 use Rattle.prefix_int.specs.Integer.{int_size}
 use Rattle.int_writing.proofs.Writers.{unsized}

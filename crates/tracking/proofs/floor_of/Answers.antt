@@ -1,25 +1,12 @@
 -- `tracking::floor_of`: the loop keeps `Walking`. Assumes nothing.
 use mathlib.Core.Path.{◌≡◌, refl, sym, ap, ◌∙◌}
 use mathlib.Core.Bool.{true}
-use Prim.Native.Nat.{◌-◌}
 use native.Mathlib.Omega.{arith}
-use lib.ListN.{length, get_or, length-map}
+use lib.ListN.{length, get_or}
 use borrow.Author.Tests.{not-true, not-false}
 use Rattle.tracking.specs.declared.Floor.{Floor}
-use Rattle.tracking.specs.Queue.{all_sections_live, lowest_of_all, section_live}
-use Rattle.tracking.proofs.Flooring.{
-  Walking,
-  walk,
-  one,
-  fails,
-  passes,
-  lowered,
-  past_end,
-  floor_live,
-  floor_low,
-  a_dead_section,
-  live_sections,
-}
+use Rattle.tracking.specs.Queue.{section_live}
+use Rattle.tracking.proofs.Flooring.{walk, one, fails, passes, lowered, past_end, floor_live, floor_low, a_dead_section, live_sections}
 use Rattle.tracking.proofs.floor_of.Goals.{Else-not-floor, Start}
 use Rattle.tracking.proofs.floor_of.Goals as goal
 

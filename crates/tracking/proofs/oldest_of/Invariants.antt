@@ -1,9 +1,6 @@
 -- `tracking::oldest_of`: the loop keeps `Searching`. Assumes nothing.
-use mathlib.Core.Path.{◌≡◌}
 use Prim.Native.Nat.{◌-◌}
-use native.Mathlib.Omega.{arith}
-use lib.ListN.{length, length-map}
-use Rattle.blocked.proofs.Searching.{Searching, not_yet, here, not_here, nowhere}
+use Rattle.blocked.proofs.Searching.{Searching}
 use Rattle.tracking.specs.declared.Section.{Section}
 use Rattle.tracking.proofs.oldest_of.Given as goal
 

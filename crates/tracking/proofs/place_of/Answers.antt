@@ -1,10 +1,8 @@
 -- `tracking::place_of`: the loop keeps `Searching`. Assumes nothing.
 use mathlib.Core.Path.{◌≡◌}
-use Prim.Native.Nat.{◌-◌}
 use native.Mathlib.Omega.{arith}
 use lib.ListN.{length}
-use Rattle.blocked.proofs.Searching.{Searching, not_yet, here, not_here, nowhere}
-use Rattle.tracking.specs.declared.Held.{Held}
+use Rattle.blocked.proofs.Searching.{not_yet, here, not_here, nowhere}
 use Rattle.tracking.proofs.place_of.Goals.{Start}
 use Rattle.tracking.proofs.place_of.Goals as goal
 

@@ -1,10 +1,8 @@
 -- `tracking::release`: refusals by the cases of `releasing`, and the loop keeps `Moving`. Assumes nothing.
 use mathlib.Core.Path.{◌≡◌, sym}
-use Prim.Native.Nat.{◌-◌}
 use native.Mathlib.Omega.{arith}
-use lib.ListN.{length, length-map}
-use Rattle.tracking.specs.Queue.{no_section}
-use Rattle.tracking.proofs.Moving.{Moving, not_moved, moved_up, cleared, too_long, nothing, released}
+use lib.ListN.{length}
+use Rattle.tracking.proofs.Moving.{not_moved, moved_up, cleared, too_long, nothing, released}
 use Rattle.tracking.proofs.release.Goals.{Start}
 use Rattle.tracking.proofs.release.Goals as goal
 

@@ -1,15 +1,12 @@
 -- `tracking::section_floor`: the loop keeps `Walking`. Assumes nothing.
 use mathlib.Core.Path.{◌≡◌, refl, sym, ◌∙◌}
 use mathlib.Core.Bool.{true}
-use mathlib.Core.List.{List, map}
-use Prim.Native.Nat.{ℕ, ◌-◌}
 use native.Mathlib.Omega.{arith}
-use lib.ListN.{length, get_or, length-map}
+use lib.ListN.{length, get_or}
 use borrow.Author.Tests.{not-true, not-false}
-use Rattle.tracking.specs.declared.Held.{Held}
 use Rattle.tracking.specs.Uses.{no_held, use_of}
-use Rattle.tracking.specs.Queue.{is_live_use, all_live, lowest}
-use Rattle.tracking.proofs.Flooring.{inserted, Walking, walk, one, fails, passes, lowered, many_uses, a_dead_use, live_uses}
+use Rattle.tracking.specs.Queue.{is_live_use}
+use Rattle.tracking.proofs.Flooring.{inserted, walk, one, fails, passes, lowered, many_uses, a_dead_use, live_uses}
 use Rattle.tracking.proofs.section_floor.Goals.{Else-not-live, Start}
 use Rattle.tracking.proofs.section_floor.Goals as goal
 

@@ -1,7 +1,6 @@
 -- `dynamic::Table::abandon`: what was not admitted, or a section that closes. Assumes nothing.
 use mathlib.Core.Path.{◌≡◌, ap, ◌∙◌}
 use mathlib.Core.Bool.{false}
-use borrow.Author.Rules.{rules}
 use Rattle.dynamic.specs.Calls.{answer, with_section}
 use Rattle.dynamic.specs.Record.{sound}
 use Rattle.dynamic.proofs.Sections.{abandon_keeps, abandon_refused, abandon_done}

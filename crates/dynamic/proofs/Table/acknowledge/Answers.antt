@@ -1,8 +1,7 @@
 -- `dynamic::Table::acknowledge`: a release from the queue, put back into the record. Assumes nothing.
 use mathlib.Core.Path.{◌≡◌, refl, ap, ◌∙◌}
 use mathlib.Core.Bool.{Bool, false}
-use lib.ListN.{length, length-map}
-use borrow.Author.Rules.{rules}
+use lib.ListN.{length}
 use Rattle.model.specs.Bounds.{queue_places}
 use Rattle.dynamic.specs.Calls.{answer, admitted}
 use Rattle.dynamic.specs.declared.Table.{Table}

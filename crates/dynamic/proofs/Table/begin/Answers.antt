@@ -1,6 +1,5 @@
 -- `dynamic::Table::begin`: what was not admitted, or a new section. Assumes nothing.
 use mathlib.Core.Path.{◌≡◌, ap, ◌∙◌}
-use borrow.Author.Rules.{rules}
 use Rattle.ring.proofs.Keeping.{kept}
 use Rattle.dynamic.specs.Calls.{answer}
 use Rattle.dynamic.specs.Record.{sound}

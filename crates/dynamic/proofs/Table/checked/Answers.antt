@@ -1,7 +1,6 @@
 -- The proof of `Table::checked`: each test is one of the record's rules, and the floors find the lowest entry used. Assumes nothing.
 use mathlib.Core.Path.{◌≡◌, sym, ap, ◌∙◌}
 use mathlib.Core.Bool.{true}
-use borrow.Author.Rules.{rules}
 use borrow.Author.Tests.{not-true, not-false, le-leb, lt-leb, lt-ltb, le-ltb}
 use Rattle.ring.specs.Ring.{keeps}
 use Rattle.blocked.specs.Waiting.{keeps_count}

@@ -1,8 +1,7 @@
 -- `dynamic::Table::commit`: what was not admitted, a largest past the inserted, no place, no value, or queued. Assumes nothing.
 use mathlib.Core.Path.{◌≡◌, ap, ◌∙◌}
 use mathlib.Core.Bool.{true}
-use lib.ListN.{length, length-map}
-use borrow.Author.Rules.{rules}
+use lib.ListN.{length}
 use borrow.Author.Tests.{not-true, not-false}
 use Rattle.model.specs.Bounds.{queue_places, blocked_values}
 use Rattle.dynamic.specs.Calls.{answer, committed}

@@ -1,8 +1,7 @@
 -- `dynamic::Table::find`: what `find_in` gives, put back into the record. Assumes nothing.
 use mathlib.Core.Path.{◌≡◌, ap, ◌∙◌}
 use mathlib.Core.Bool.{Bool, true}
-use lib.ListN.{length, length-map}
-use borrow.Author.Rules.{rules}
+use lib.ListN.{length}
 use Rattle.entries.proofs.Chain.{and_left, and_right}
 use Rattle.model.specs.Bounds.{section_entries}
 use Rattle.dynamic.specs.Calls.{rest_of, admitted, looked}

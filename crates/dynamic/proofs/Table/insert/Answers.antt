@@ -1,7 +1,6 @@
 -- `dynamic::Table::insert`: what `enter` gives, put back into the record. Assumes nothing.
 use mathlib.Core.Path.{◌≡◌, refl, sym, ap, ◌∙◌}
 use mathlib.Core.Bool.{Bool, true}
-use lib.ListN.{length-map}
 use borrow.Author.Rules.{rules}
 use Rattle.answers.specs.declared.Reply.{Reply}
 use Rattle.entries.proofs.Chain.{and_left, and_right}

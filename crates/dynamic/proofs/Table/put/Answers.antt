@@ -1,7 +1,6 @@
 -- `dynamic::Table::put`: what `put_in` gives, put back into the record. Assumes nothing.
 use mathlib.Core.Path.{◌≡◌, ap, ◌∙◌}
 use mathlib.Core.Bool.{Bool, false}
-use borrow.Author.Rules.{rules}
 use Rattle.answers.specs.declared.Reply.{Reply}
 use Rattle.entries.proofs.Chain.{and_left}
 use Rattle.dynamic.specs.Calls.{rest_of, admitted}

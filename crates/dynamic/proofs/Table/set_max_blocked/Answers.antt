@@ -1,7 +1,6 @@
 -- `dynamic::Table::set_max_blocked`: each return is the call's exact answer, by the tests that led there. Assumes nothing.
 use mathlib.Core.Path.{◌≡◌, ap, ◌∙◌}
 use mathlib.Core.Bool.{true, false}
-use borrow.Author.Rules.{rules}
 use Rattle.dynamic.specs.Calls.{answer, with_most, set_most}
 use Rattle.dynamic.specs.Record.{sound}
 use Rattle.dynamic.proofs.Told.{told_sound}

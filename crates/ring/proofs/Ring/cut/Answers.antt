@@ -1,7 +1,6 @@
 -- `ring::Ring::cut`: as `entries::fewest` makes room. Assumes nothing.
 use mathlib.Core.Path.{◌≡◌}
 use native.Mathlib.Omega.{arith}
-use borrow.Author.Rules.{rules}
 use borrow.Author.Tests.{not-true, not-false}
 use Rattle.ring.specs.Ring.{room_in}
 use Rattle.ring.proofs.Cutting.{stays, goes}

@@ -1,7 +1,6 @@
 -- `ring::Ring::push`: the plan says whether it is made; `place` writes the arena, and the stores make the next ring. Assumes nothing.
 use mathlib.Core.Path.{refl, sym, ◌∙◌}
 use native.Mathlib.Omega.{arith}
-use borrow.Author.Rules.{rules}
 use borrow.Author.Tests.{le-leb}
 use Rattle.ring.specs.Plan.{Refuses, Readies}
 use Rattle.ring.specs.Ring.{placed_bytes}

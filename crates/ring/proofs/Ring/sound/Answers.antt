@@ -1,5 +1,4 @@
 -- `ring::Ring::sound`: the count is tested, and `entries::check` tells the rest. Assumes nothing.
-use borrow.Author.Rules.{rules}
 use borrow.Author.Tests.{le-leb, lt-leb}
 use Rattle.ring.specs.Ring.{keeps}
 use Rattle.ring.proofs.Ring.sound.Goals as goal

@@ -1,7 +1,6 @@
 -- `script::opcodes::others_at`: each return rewrites with the test that led there and with what `out_at` gave. Assumes nothing.
 use native.Mathlib.Nat.{add-zero}
 use native.Mathlib.Omega.{arith}
-use borrow.Author.Rules.{rules}
 use Rattle.script.proofs.opcodes.others_at.Goals as goal
 
 pub returns-then-s : goal.returns-then-s

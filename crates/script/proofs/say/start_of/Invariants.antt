@@ -1,5 +1,4 @@
 -- `script::say::start_of`: the place stays within the words. Assumes nothing.
-use borrow.Author.Rules.{rules}
 use Prim.Native.Nat.{◌≤◌, ◌-◌}
 use lib.ListN.{length}
 use Rattle.script.proofs.say.start_of.Given as goal

@@ -1,5 +1,4 @@
 -- `script::say::until_space`: the bytes that are left fall. Assumes nothing.
-use borrow.Author.Rules.{rules}
 use Prim.Native.Nat.{◌≤◌, ◌-◌}
 use lib.ListN.{length}
 use Rattle.script.proofs.say.until_space.Given as goal

@@ -1,5 +1,4 @@
 -- `script::say::values`: the values that are left fall. Assumes nothing.
-use borrow.Author.Rules.{rules}
 use Prim.Native.Nat.{◌≤◌, ◌-◌}
 use Rattle.script.proofs.say.values.Given as goal
 

@@ -1,8 +1,5 @@
 -- `script::text::fill`: the buffer keeps its length. Assumes nothing.
-use borrow.Author.Rules.{rules}
-use Prim.Native.Nat.{◌≤◌, ◌-◌}
-use mathlib.Core.Path.{◌≡◌}
-use lib.ListN.{length, length-set}
+use lib.ListN.{length-set}
 use native.Mathlib.Omega.{arith}
 use Rattle.script.proofs.text.fill.Goals as goal
 

@@ -1,9 +1,7 @@
 -- `script::text::fill`: the buffer keeps its length. Assumes nothing.
-use borrow.Author.Rules.{rules}
 use Prim.Native.Nat.{◌≤◌, ◌-◌}
 use mathlib.Core.Path.{◌≡◌}
-use lib.ListN.{length, length-set}
-use native.Mathlib.Omega.{arith}
+use lib.ListN.{length}
 use Rattle.script.proofs.text.fill.Given as goal
 
 abbrev pub invariant-loop-i : goal.invariant-loop-i

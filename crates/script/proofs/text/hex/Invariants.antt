@@ -1,5 +1,4 @@
 -- `script::text::hex`: the position stays within the bytes. Assumes nothing.
-use borrow.Author.Rules.{rules}
 use Prim.Native.Nat.{◌≤◌, ◌-◌}
 use lib.ListN.{length}
 use Rattle.script.proofs.text.hex.Given as goal

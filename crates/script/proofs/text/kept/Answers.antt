@@ -2,8 +2,6 @@
 use mathlib.Core.Path.{sym}
 use lib.Seq.{length-take-le}
 use borrow.Author.Rules.{rules}
-use Prim.Native.Nat.{◌≤◌}
-use lib.ListN.{length}
 use Rattle.script.proofs.text.kept.Goals as goal
 
 pub returns-then-s-n : goal.returns-then-s-n

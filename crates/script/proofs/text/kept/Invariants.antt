@@ -1,7 +1,4 @@
 -- `script::text::kept`: the count stays within the bytes. Assumes nothing.
-use mathlib.Core.Path.{sym}
-use lib.Seq.{length-take-le}
-use borrow.Author.Rules.{rules}
 use Prim.Native.Nat.{◌≤◌}
 use lib.ListN.{length}
 use Rattle.script.proofs.text.kept.Given as goal

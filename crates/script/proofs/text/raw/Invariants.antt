@@ -1,5 +1,4 @@
 -- `script::text::raw`: the position stays within the text. Assumes nothing.
-use borrow.Author.Rules.{rules}
 use Prim.Native.Nat.{◌≤◌, ◌-◌}
 use lib.ListN.{length}
 use Rattle.script.proofs.text.raw.Given as goal

@@ -1,8 +1,5 @@
 -- `script_show::bytes::overwrite`: the arena keeps its length. Assumes nothing.
-use borrow.Author.Rules.{rules}
-use Prim.Native.Nat.{◌≤◌, ◌-◌}
-use mathlib.Core.Path.{◌≡◌}
-use lib.ListN.{length, length-set}
+use lib.ListN.{length-set}
 use native.Mathlib.Omega.{arith}
 use Rattle.script_show.proofs.bytes.overwrite.Goals as goal
 

@@ -1,9 +1,7 @@
 -- `script_show::bytes::overwrite`: the arena keeps its length. Assumes nothing.
-use borrow.Author.Rules.{rules}
 use Prim.Native.Nat.{◌≤◌, ◌-◌}
 use mathlib.Core.Path.{◌≡◌}
-use lib.ListN.{length, length-set}
-use native.Mathlib.Omega.{arith}
+use lib.ListN.{length}
 use Rattle.script_show.proofs.bytes.overwrite.Given as goal
 
 abbrev pub invariant-loop-i : goal.invariant-loop-i

@@ -1,5 +1,4 @@
 -- `script_show::show::kept_slots`: the count stays within the slots. Assumes nothing.
-use borrow.Author.Rules.{rules}
 use Prim.Native.Nat.{◌≤◌}
 use Rattle.script_show.proofs.show.kept_slots.Given as goal
 

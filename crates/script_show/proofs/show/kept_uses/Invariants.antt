@@ -1,5 +1,4 @@
 -- `script_show::show::kept_uses`: the count stays within the uses. Assumes nothing.
-use borrow.Author.Rules.{rules}
 use Prim.Native.Nat.{◌≤◌}
 use Rattle.script_show.proofs.show.kept_uses.Given as goal
 

@@ -1,5 +1,4 @@
 -- `script_show::show::kept_values`: the count stays within the values. Assumes nothing.
-use borrow.Author.Rules.{rules}
 use Prim.Native.Nat.{◌≤◌}
 use Rattle.script_show.proofs.show.kept_values.Given as goal
 

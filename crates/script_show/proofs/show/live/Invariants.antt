@@ -1,5 +1,4 @@
 -- `script_show::show::live`: the entries that are left fall. Assumes nothing.
-use borrow.Author.Rules.{rules}
 use Prim.Native.Nat.{◌≤◌, ◌-◌}
 use Rattle.script_show.proofs.show.live.Given as goal
 

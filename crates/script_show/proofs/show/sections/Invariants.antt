@@ -1,8 +1,5 @@
 -- `script_show::show::sections`: the index stays within the places. Assumes nothing.
-use borrow.Author.Rules.{rules}
 use Prim.Native.Nat.{◌≤◌, ◌-◌}
-use mathlib.Core.Path.{◌≡◌}
-use lib.ListN.{length}
 use Rattle.script_show.proofs.show.sections.Given as goal
 
 abbrev pub invariant-loop-i : goal.invariant-loop-i

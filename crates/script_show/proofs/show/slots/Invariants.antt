@@ -1,5 +1,4 @@
 -- `script_show::show::slots`: the index stays within the slots. Assumes nothing.
-use borrow.Author.Rules.{rules}
 use Prim.Native.Nat.{◌≤◌, ◌-◌}
 use Rattle.script_show.proofs.show.slots.Given as goal
 

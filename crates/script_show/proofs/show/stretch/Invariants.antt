@@ -1,5 +1,4 @@
 -- `script_show::show::stretch`: the position stays within the ring. Assumes nothing.
-use borrow.Author.Rules.{rules}
 use Prim.Native.Nat.{◌<◌}
 use Rattle.script_show.proofs.show.stretch.Given as goal
 

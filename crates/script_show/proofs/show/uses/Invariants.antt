@@ -1,5 +1,4 @@
 -- `script_show::show::uses`: the index stays within the uses. Assumes nothing.
-use borrow.Author.Rules.{rules}
 use Prim.Native.Nat.{◌≤◌, ◌-◌}
 use Rattle.script_show.proofs.show.uses.Given as goal
 

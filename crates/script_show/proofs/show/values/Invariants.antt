@@ -1,5 +1,4 @@
 -- `script_show::show::values`: the index stays within the values. Assumes nothing.
-use borrow.Author.Rules.{rules}
 use Prim.Native.Nat.{◌≤◌, ◌-◌}
 use Rattle.script_show.proofs.show.values.Given as goal
 

@@ -1,5 +1,4 @@
 -- `script_table::section::all`: the index stays within the records. Assumes nothing.
-use borrow.Author.Rules.{rules}
 use Prim.Native.Nat.{◌≤◌, ◌-◌}
 use Rattle.script_table.proofs.section.all.Given as goal
 

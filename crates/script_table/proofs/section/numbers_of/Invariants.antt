@@ -1,5 +1,4 @@
 -- `script_table::section::numbers_of`: the index stays within the records, which stay as many. Assumes nothing.
-use borrow.Author.Rules.{rules}
 use mathlib.Core.Path.{◌≡◌}
 use lib.ListN.{length}
 use Prim.Native.Nat.{◌≤◌, ◌-◌}

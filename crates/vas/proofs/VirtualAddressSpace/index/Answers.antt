@@ -1,7 +1,6 @@
 -- `vas::VirtualAddressSpace::index`: a position below the live count, or not. Assumes nothing.
 use native.Mathlib.Omega.{arith}
 use Rattle.vas.proofs.Laws.{no_position, at_position}
-use borrow.Author.Rules.{rules}
 use Rattle.vas.proofs.VirtualAddressSpace.index.Goals as goal
 
 pub returns-then-inserted-dropped : goal.returns-then-inserted-dropped

@@ -1,7 +1,6 @@
 -- `vas::VirtualAddressSpace::post_base`: above the newest entry, dropped, or live. Assumes nothing.
 use native.Mathlib.Omega.{arith}
 use Rattle.vas.proofs.Laws.{post_base_above, post_base_dropped, post_base_live}
-use borrow.Author.Rules.{rules}
 use Rattle.vas.proofs.VirtualAddressSpace.post_base.Goals as goal
 
 pub returns-then-inserted-base : goal.returns-then-inserted-base

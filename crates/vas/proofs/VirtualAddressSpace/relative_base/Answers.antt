@@ -2,7 +2,6 @@
 use Prim.Native.Nat.{◌-◌}
 use native.Mathlib.Omega.{arith}
 use Rattle.vas.proofs.Laws.{none_live, was_dropped, not_yet, is_live}
-use borrow.Author.Rules.{rules}
 use Rattle.vas.proofs.VirtualAddressSpace.relative_base.Goals as goal
 
 pub returns-then-inserted-dropped : goal.returns-then-inserted-dropped
