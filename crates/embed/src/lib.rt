@@ -1,4 +1,6 @@
 // The library for C and Rust: each call under a plain name, with its answer as document 01's number. include/qpack_table.h declares the same.
+#![tactic(auto)]
+
 ghost use Rattle.std.specs.Prelude.{◌≡◌, length};
 ghost use Rattle.decoder.specs.Section.{on_table, stateless, read_all, numbers};
 ghost use Rattle.decoder_stream.specs.Reports.{receiving};
