@@ -1,5 +1,5 @@
 #!/usr/bin/env bash
-# program.sh NAME: proves and builds the program crates/NAME, and puts it at target/bin/NAME. With no change since, this takes a second.
+# program.sh NAME: proves and builds the program crates/NAME, and puts it at target/bin/NAME. With no change since, it proves nothing again.
 set -euo pipefail
 cd "$(dirname "$0")/.."
 [ $# = 1 ] && [ -f "crates/$1/src/main.rt" ] || { echo "usage: program.sh NAME, where crates/NAME is a program" >&2; exit 2; }

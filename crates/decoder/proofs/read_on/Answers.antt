@@ -9,7 +9,6 @@ use Rattle.section_steps.proofs.Lines.{next_in}
 use Rattle.section_steps.proofs.Stepping.{stays_past, has_started}
 use Rattle.decoder.proofs.read_on.Goals as goal
 
--- the call's start, and the loop that a turn's call stands in
 pub begin-requires : goal.begin-requires
 begin-requires c = tt
 

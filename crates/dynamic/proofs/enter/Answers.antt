@@ -38,7 +38,6 @@ admits : (c : In-Done) (o : Rest)
 admits c o =
     ap (λ (r : Reply). insert_first r (with (goal.at.In-Done c).Start o) c.args.arena.now c.args.name.now c.args.value.now) (sym c.in-Done.is)
 
--- fewer are blocked than may be
 room_is : (c : After-room-room) (o : Rest) → c.args.low ≡ lowest_used (with (goal.at.After-room-room c).Start o)
     → c.room-room.result ≡ room_for c.args.ring (lowest_used (with (goal.at.After-room-room c).Start o)) (length c.args.name.now) (length c.args.value.now)
 room_is c o low = rw low at c.room-room.ensures

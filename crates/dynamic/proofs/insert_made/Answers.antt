@@ -42,7 +42,6 @@ numbers z =
     counts (held z) z.args.arena.now z.args.name.now z.args.value.now (rules_kept z) (shape z) z.requires.1
     z.args.room.count (tells z) z.requires.0.opens.active
 
--- from the search back to the first place
 -- what names the new entry lies between the first number of the section and the entry
 named : (c : After-origin_of-origin)
     → OlderThan (c.args.ring.inserted + 1) c.origin_of-origin.result
@@ -52,8 +51,6 @@ named c =
     let low : z.section.from ≤ z.ring.dropped + z.room.count = omega (arith, (numbers (goal.at.After-origin_of-origin c).Start).from) in
     (c.origin_of-origin.ensures.older_than.0, newer_more _ _ c.origin_of-origin.result low c.origin_of-origin.ensures.older_than.1)
 
--- from the notes back to what names the new entry
--- from the push back to the notes
 pushes : (c : After-push-p)
     → Pushes c.args.ring c.args.arena.now c.push-p.new.arena
     (lowest_used (held (goal.at.After-push-p c).Start)) Given c.args.name.now c.args.value.now c.push-p.result

@@ -8,7 +8,6 @@ use Rattle.dynamic.proofs.Unmade.{insert_of, only_static, only_found}
 use Rattle.dynamic.proofs.name_only.Goals.{After-seek-s}
 use Rattle.dynamic.proofs.name_only.Goals as goal
 
--- from the search back to the first place
 unlisted : (c : After-seek-s) → lowest_name c.args.name.now ≡ none
 unlisted c = sym c.find_name-fixed.ensures ∙ ap found c.in-Nothing.is
 

@@ -34,7 +34,6 @@ none_equal c =
     found_none c.args.ring c.args.arena.now c.args.gone c.args.name.now c.args.value.now true _ c.requires.2
     c.newest-equal.ensures c.in_default.is
 
--- the place after the first search
 unlisted : (c : In_default-fixed) → lowest_name c.args.name.now ≡ none
 unlisted c = sym c.find_name-fixed.ensures ∙ ap found c.in_default-fixed.is
 

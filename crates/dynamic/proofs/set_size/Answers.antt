@@ -14,7 +14,6 @@ use Rattle.dynamic.proofs.Steps.{closed_admitted, closed_refused}
 use Rattle.dynamic.proofs.set_size.Goals.{After-capacity_test-test, After-cut-cut, In-Within, Start}
 use Rattle.dynamic.proofs.set_size.Goals as goal
 
--- the test of the capacity, and the call up to it
 -- the call was admitted
 passed : (c : After-capacity_test-test) (t : Table) → c.args.first ≡ admitted (sound t) t.active false → (sound t ≡ true) × (t.active ≡ false)
 passed c t = closed_admitted c.args.first c.in-Done.is (sound t) t.active

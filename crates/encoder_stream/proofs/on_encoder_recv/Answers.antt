@@ -14,7 +14,6 @@ use borrow.Author.Rules.{rules}
 use Rattle.encoder_stream.proofs.on_encoder_recv.Goals.{After-checked-c, Else-arena-lt-RING, Else-not-c, Start}
 use Rattle.encoder_stream.proofs.on_encoder_recv.Goals as goal
 
--- the call of a check
 tells : (c : After-checked-c) → c.checked-c.result.sound ≡ sound c.args.table
 tells c = told_sound c.args.table c.checked-c.result c.checked-c.ensures
 

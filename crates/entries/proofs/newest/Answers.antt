@@ -5,7 +5,6 @@ use borrow.Author.Tests.{le-leb, lt-leb}
 use Rattle.entries.proofs.Searching.{start, over, other_name, other, found}
 use Rattle.entries.proofs.newest.Goals as goal
 
--- where the name's length is right, from where both numbers of the entry are known
 pub returns-then-arena-lt-RING : goal.returns-then-arena-lt-RING
 returns-then-arena-lt-RING c = rw (lt-leb _ _ c.if-arena-lt-RING.true)
 

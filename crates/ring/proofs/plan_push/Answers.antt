@@ -29,7 +29,6 @@ ringAt z =
       values = z.args.values.now;
     }
 
--- the places back to the start
 -- whether the source is live
 told : (c : After-is_live)
     → c.is_live.result ≡ live_in (c.args.inserted - c.args.dropped) c.args.source

@@ -13,7 +13,6 @@ returns-then-arena-lt-RING c = let a = c.args in on_short a.table a.arena.now a.
 pub returns-then-c : goal.returns-then-c
 returns-then-c c = let a = c.args in on_started a.table a.arena.now a.s.now a.c c.if-arena-lt-RING.false c.if-c.true
 
--- the call of a check
 tells : (c : After-checked-check) → c.checked-check.result.sound ≡ sound c.args.table
 tells c = told_sound c.args.table c.checked-check.result c.checked-check.ensures
 

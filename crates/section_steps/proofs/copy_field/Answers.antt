@@ -9,7 +9,6 @@ use Rattle.section_steps.proofs.Copying.{same_ready, parts_copied, fixed_end, fi
 use Rattle.section_steps.proofs.copy_field.Goals.{Joined-name, in-Fixed+in-Fixed-value+else-start-len, in-Fixed+in_default-value, in_default}
 use Rattle.section_steps.proofs.copy_field.Goals as goal
 
--- the call's start, from where both strings are known to be fixed, and from where the tests meet
 -- no test changes a string
 same_texts : (c : Joined-name) → (c.match-name.name ≡ c.args.name) × (c.match-name.value ≡ c.args.value)
 same_texts c =

@@ -10,7 +10,6 @@ use Rattle.section_steps.proofs.line_on.Goals as goal
 abbrev live_now : Start → Live
 live_now z = live_in z.args.starts.now z.args.names.now z.args.values.now z.args.live z.args.arena.now
 
--- the call's start
 pub returns-then-arena-lt-RING : goal.returns-then-arena-lt-RING
 returns-then-arena-lt-RING c =
     let n = in_short (live_now (goal.at.returns-then-arena-lt-RING c).Start) c.args.arena.now c.args.s.now c.args.out.now c.args.room c.args.c _ c.if-arena-lt-RING.true c.ended.ensures in

@@ -5,7 +5,6 @@ use Rattle.section_steps.proofs.Lines.{next_in}
 use Rattle.section_steps.proofs.Stepping.{next_refused}
 use Rattle.section_steps.proofs.next_on.Goals as goal
 
--- the call's start
 pub returns-in-Refused : goal.returns-in-Refused
 returns-in-Refused c =
     let a = c.args in

@@ -8,7 +8,6 @@ use Rattle.section_steps.proofs.Stepping.{ready_static, next_refused, next_ended
 use Rattle.section_steps.proofs.next_stateless.Goals.{In-At}
 use Rattle.section_steps.proofs.next_stateless.Goals as goal
 
--- the call's start, and the cursor past the prefix
 stands : (c : In-At) → cursor_at (stateless c.args.max.bytes)
     c.args.s.now c.args.c ≡ done c.in-At.d
 stands c = sym (c.begin_stateless-from.ensures _) ∙ ap begun_by c.in-At.is

@@ -11,13 +11,12 @@ use Rattle.section_steps.proofs.Placing.{Fits, fits_facts, line_ready, place_ref
 use Rattle.section_steps.proofs.place.Goals.{Else-is_over, Else-not-has_room}
 use Rattle.section_steps.proofs.place.Goals as goal
 
--- the call's start, and the field that the line stands for
 -- it is within the limit
 under : (c : Else-is_over) → is_over (limit_of c.args.limit)
     (c.args.c.size + (c.text_len-n.result + c.text_len-v.result + overhead)) ≡ false
 under c = sym c.is_over.ensures ∙ c.if-is_over.false
 
--- and fits
+-- the field fits in what is lent
 has : (c : Else-not-has_room) → fits c.args.room (length c.args.out.now)
     c.args.c c.text_len-n.result c.text_len-v.result ≡ true
 has c = sym c.has_room.ensures ∙ not-false _ c.if-not-has_room.false-raw

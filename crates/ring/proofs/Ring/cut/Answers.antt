@@ -8,7 +8,6 @@ use Rattle.ring.proofs.Walked.{bounds, room_walked}
 use Rattle.ring.proofs.Ring.cut.Goals.{After-fewest-room}
 use Rattle.ring.proofs.Ring.cut.Goals as goal
 
--- from the call of `entries::fewest` back to the first place
 found : (c : After-fewest-room) → c.fewest-room.result ≡ room_in c.args.self c.args.low c.args.capacity
 found c =
     room_walked c.args.self _ _ _ _

@@ -8,7 +8,6 @@ use Rattle.ring.proofs.Planning.{is_refused, is_ready}
 use Rattle.ring.proofs.Ring.push.Goals.{In-Ready, In-Refused}
 use Rattle.ring.proofs.Ring.push.Goals as goal
 
--- from the plan back to the first place
 refused : (c : In-Refused)
     → Refuses c.args.self c.args.arena.now c.args.low
     c.args.source c.args.name.now c.args.value.now
