@@ -11,7 +11,7 @@
 -- | on_encoder_recv | Receives (encoder_stream) | one_encoder_call |
 -- | on_decoder_recv | Receives (decoder_stream) | one_decoder_call |
 -- | decode_header, decode_stateless, read_on, read_stateless (decoder) | section_of r fields out ≡ read_all .. | one_section |
--- | decode_header_listed, decode_stateless_listed (listed) | Lists | one_listed |
+-- | decode_header_listed, decode_stateless_listed (listed) | Lists | one_listed (OneListed) |
 -- | next_on, next_stateless, line_on (section_steps) | r ≡ line_of .. or line_in .., out ≡ out_of .. or out_in .. | one_step |
 -- | begin_on (section_steps) | begun_by r ≡ .. | one_begun (Meanings) |
 -- | every writer: prefix_int, prefix_string, shapes, stream, block; byte_writing::write, static_table::copy, arena::copy | Writes | one_write |
@@ -36,16 +36,13 @@ use mathlib.Core.Path.{◌≡◌, sym, ap, ◌∙◌}
 use mathlib.Core.List.{List, [], ◌++◌}
 use mathlib.Core.Option.{Option}
 use Prim.Native.Nat.{ℕ}
-use lib.ListN.{length, take, drop, take-append-drop}
+use lib.ListN.{length, drop}
 use Rattle.answers.specs.Answer.{Answer}
 use Rattle.answers.specs.Table.{Done}
 use Rattle.answers.specs.Write.{Writes}
 use Rattle.answers.specs.declared.Written.{Written}
 use Rattle.decoder.specs.Section as section
-use Rattle.listed.specs.Lent.{Lists}
-use Rattle.listed.specs.declared.Listed.{Listed}
 use Rattle.section_steps.specs.declared.Decoded.{Decoded}
-use Rattle.section_steps.specs.declared.Field.{Field as Record}
 use Rattle.section_steps.specs.declared.Line.{Line}
 use Rattle.decoder_stream.specs.Reports as reports
 use Rattle.decoder_stream.specs.declared.Reported.{Reported}
@@ -131,15 +128,6 @@ one_section {R} r r' fs fs' m m' w w' =
       ap (λ (z : section.Section R). z.fields) same,
       ap (λ (z : section.Section R). z.out) same,
     )
-
--- what is returned, all its records with it, and the buffer
-pub one_listed : (k : section.Reader) (s out : List ℕ) (fill : Record) (n : ℕ) (r r' : Listed) (m m' : List ℕ)
-    → Lists k s fill n out r m → Lists k s fill n out r' m' → (r ≡ r') × (m ≡ m')
-one_listed k s out fill n r r' m m' w w' =
-    let same = one_section r.decoded r'.decoded (take n r.fields) (take n r'.fields) m m' w.0 w'.0 in
-    let fields : r.fields ≡ r'.fields =
-    sym (take-append-drop n r.fields) ∙ ap (λ (l : List Record). l ++ drop n r.fields) same.1 ∙ ap (λ (l : List Record). take n r'.fields ++ l) (one_exact w.1 w'.1) ∙ take-append-drop n r'.fields in
-    (λ i. record { decoded = same.0 i; fields = fields i }, same.2)
 
 -- one line at a time: what is told, the next cursor, the field, and the buffer
 -- after: the buffer after a step, by its line

@@ -13,7 +13,8 @@ use Rattle.entries.proofs.Chain.{and_left}
 use Rattle.reorder.specs.Batch.{handed}
 use Rattle.reorder.specs.Reports.{Reordered, total}
 use Rattle.reorder.specs.Slices.{Slice, reports_in, handed_bytes}
-use Rattle.reorder.proofs.Theorem.{same_outcome, same_calls}
+use Rattle.reorder.proofs.Later.{same_calls}
+use Rattle.reorder.proofs.Theorem.{same_outcome}
 use Rattle.ring.specs.Ring.{largest_count}
 use Rattle.demands.specs.Calls.{State, holds, Call, Outcome, number_said, calling, called, outcomes, after, LongEnough, AllLongEnough, Every, batch}
 use Rattle.demands.proofs.Full.{Full, fresh_full}
@@ -102,12 +103,3 @@ pub ours_is_ready : (a : List ℕ) → long_enough a ≡ true → (cs : List Cal
 ours_is_ready a l cs w e =
     let k = last (holds fresh_table a) (fresh_kept a l) cs w in
     record { rules = fresh_stays_sound a l cs w; closed = e; places = k.full.queue; values = k.full.waiting }
-
--- so from a fresh table: any calls that leave no section open, then the batch in two orders, then any calls
-pub ours_reordered : (a : List ℕ) → long_enough a ≡ true → (first : List Call) → AllLongEnough first
-    → (after (holds fresh_table a) first).table.active ≡ false → (xs ys : List Report) → Reordered xs ys
-    → (after (holds fresh_table a) first).table.known + total xs ≤ largest_count → (later : List Call)
-    → outcomes (after (after (holds fresh_table a) first) (batch xs)) later ≡ outcomes (after (after (holds fresh_table a) first) (batch ys)) later
-ours_reordered a l first w e xs ys r h later =
-    let x = after (holds fresh_table a) first in
-    same_calls_later x.table (ours_is_ready a l first w e) xs ys r h x.arena later

@@ -10,7 +10,7 @@ use Rattle.dynamic.specs.declared.Table.{Table}
 use Rattle.entries.specs.Entry.{between}
 use Rattle.reorder.specs.Reports.{Reordered, total}
 use Rattle.reorder.specs.Slices.{Slice, reports_in, receives, handed_bytes}
-use Rattle.reorder.proofs.Theorem.{same_calls}
+use Rattle.reorder.proofs.Later.{same_calls}
 use Rattle.ring.specs.Ring.{largest_count}
 use Rattle.demands.specs.Calls.{State, holds, Call, decoder_stream, called, outcomes, after, AllLongEnough, batch}
 use Rattle.demands.specs.Strings.{Alike, same, AlikeCalls, AlikeOutcomes}

@@ -29,7 +29,8 @@ use Rattle.reorder.specs.Swaps.{keep, swap, then, Independent}
 use Rattle.reorder.specs.Batch.{after, handed, of_stream, left, SameOutcome}
 use Rattle.reorder.specs.Slices.{Slice, SameCalls}
 use Rattle.reorder.proofs.Reorder.{from_swaps}
-use Rattle.reorder.proofs.Theorem.{same_outcome, same_calls}
+use Rattle.reorder.proofs.Later.{same_calls}
+use Rattle.reorder.proofs.Theorem.{same_outcome}
 
 -- ---- a table with two entries, two sections of stream 1 and one of stream 2 between them
 

@@ -24,7 +24,6 @@ use Rattle.blocked.proofs.Blocked.{let_go_less_first}
 use Rattle.tracking.proofs.Sections.{not_released, releases_commute, release_made}
 use Rattle.reorder.specs.Reports.{amount}
 use Rattle.reorder.specs.Swaps.{Independent}
-use Rattle.reorder.proofs.Runs.{Commutes}
 
 -- a table that bears further increments by b in all
 pub record Fine (b : ℕ) (t : Table) : Type 0 where
@@ -67,12 +66,12 @@ module _ (t : Table) (g : Ready t) where
   increment_plain : (n : ℕ) → t.known + n ≤ largest_count → takes t (increment n) ≡ record { state = raised (t.known + n) t; answer = done ok }
   increment_plain n h = sym (ap took (increment_done t n g.rules g.closed h))
 
-plain : (x : Report) (b : ℕ) (t : Table) → Fine (amount x + b) t → takes t x ≡ record { state = next t x; answer = said t x }
+pub plain : (x : Report) (b : ℕ) (t : Table) → Fine (amount x + b) t → takes t x ≡ record { state = next t x; answer = said t x }
 plain (acknowledgement s) b t f = release_plain t f.ready s
 plain (cancellation s) b t f = release_plain t f.ready s
 plain (increment n) b t f = increment_plain t f.ready n (omega (arith, f.room))
 
-spend : (x : Report) (b : ℕ) (t : Table) → Fine (amount x + b) t → Fine b (next t x)
+pub spend : (x : Report) (b : ℕ) (t : Table) → Fine (amount x + b) t → Fine b (next t x)
 spend x b t f =
     record {
       ready = subst Ready (ap (λ (o : Took Table). o.state) (plain x b t f)) (called_ready t f.ready x);
@@ -115,7 +114,7 @@ module _ (t : Table) (g : Ready t) where
         section = t.section;
       }) (less j hj ∙ sym (less k hk))
 
-  states : (x y : Report) → Independent x y → next (next t x) y ≡ next (next t y) x
+  pub states : (x y : Report) → Independent x y → next (next t x) y ≡ next (next t y) x
   states (acknowledgement s) (acknowledgement u) i = releases s u (apart s u i)
   states (acknowledgement s) (cancellation u) i = releases s u (apart s u i)
   states (acknowledgement s) (increment k) i = refl
@@ -129,7 +128,7 @@ module _ (t : Table) (g : Ready t) where
       rw e (raises (t.known + n) (t.known + k) (t.known + k + n) (omega arith) (omega arith))
 
   -- a report's answer is not changed by one of another stream before it
-  answers : (x y : Report) → Independent x y → said (next t y) x ≡ said t x
+  pub answers : (x y : Report) → Independent x y → said (next t y) x ≡ said t x
   answers (acknowledgement s) (acknowledgement u) i = still_said s u (apart s u i)
   answers (acknowledgement s) (cancellation u) i = still_said s u (apart s u i)
   answers (acknowledgement s) (increment k) i = refl
@@ -139,14 +138,3 @@ module _ (t : Table) (g : Ready t) where
   answers (increment n) (acknowledgement u) i = refl
   answers (increment n) (cancellation u) i = refl
   answers (increment n) (increment k) i = refl
-
-pub commutes : Commutes takes Fine Independent next said
-commutes =
-    record {
-      plain = plain;
-      spend = spend;
-      turn = λ x y i s p q. i s q p;
-      states = λ x y b t i f. states t f.ready x y i;
-      answers = λ x y b t i f. answers t f.ready x y i;
-      increments = λ n b t f. refl;
-    }

@@ -14,7 +14,8 @@ use Rattle.reorder.specs.Reports.{how_many, of, amount, total}
 use Rattle.reorder.specs.Batch.{after, unreported, left}
 use Rattle.reorder.proofs.Runs.{fine_next}
 use Rattle.reorder.proofs.Queue.{released_without, unreported_none, unreported_more}
-use Rattle.reorder.proofs.Commuting.{Fine, next, said, commutes}
+use Rattle.reorder.proofs.Commuted.{commutes}
+use Rattle.reorder.proofs.Commuting.{Fine, next, said}
 
 module _ (x : Report) (xs : List Report) (t : Table) (f : Fine (total (x ∷ xs)) t) where
   one_step : (takes t x).state ≡ next t x

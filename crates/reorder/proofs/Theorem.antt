@@ -1,5 +1,5 @@
 -- Two orders of one batch of reports that keep each stream's own: the same answers, the same references, equal tables. Assumes nothing.
-use mathlib.Core.Path.{◌≡◌, ap, ◌∙◌}
+use mathlib.Core.Path.{ap, ◌∙◌}
 use mathlib.Core.List.{List}
 use Prim.Native.Nat.{ℕ, ◌+◌, ◌≤◌}
 use Rattle.decoder_stream.specs.Reports.{Report, takes, Ready}
@@ -9,12 +9,11 @@ use Rattle.ring.specs.Ring.{largest_count}
 use Rattle.tracking.specs.Queue.{sections_of}
 use Rattle.reorder.specs.Reports.{only, how_many, of, total, Reordered}
 use Rattle.reorder.specs.Batch.{after, handed, from, SameOutcome}
-use Rattle.reorder.specs.Slices.{Slice, reports_in, SameCalls}
 use Rattle.reorder.proofs.Runs.{reordered_runs}
 use Rattle.reorder.proofs.Queue.{unreported_each}
-use Rattle.reorder.proofs.Commuting.{Fine, next, said, commutes}
+use Rattle.reorder.proofs.Commuted.{commutes}
+use Rattle.reorder.proofs.Commuting.{Fine, next, said}
 use Rattle.reorder.proofs.Leaving.{after_ready, after_known, after_queue, closed_references}
-use Rattle.reorder.proofs.Calls.{bytes_are_reports, all_or_nothing}
 
 -- reports handed in singly, in any order that keeps each stream's own
 pub same_outcome : (t : Table) → Ready t → (xs ys : List Report) → Reordered xs ys → t.known + total xs ≤ largest_count
@@ -29,19 +28,4 @@ same_outcome t g xs ys r h =
       references = λ a x.
           closed_references (after takes t xs) (after_ready xs t f) a x ∙ ap (model.uses_queued x) (after_queue xs t f);
       known = after_known xs t f;
-    }
-
--- no later calls on the two tables can differ in an answer or a byte: `later` is whatever they make of a table
-pub same_later : {X : Type 0} (later : Table → X) (t : Table) → Ready t → (xs ys : List Report) → Reordered xs ys
-    → t.known + total xs ≤ largest_count → later (handed t xs).state ≡ later (handed t ys).state
-same_later later t g xs ys r h = ap later (same_outcome t g xs ys r h).runs.states
-
--- the same where each report comes as bytes, in a call on the decoder stream of its own
-pub same_calls : (t : Table) → Ready t → (bs cs : List Slice) → Reordered (reports_in bs) (reports_in cs)
-    → t.known + total (reports_in bs) ≤ largest_count → SameCalls t bs cs
-same_calls t g bs cs r h =
-    record {
-      outcome = rw (bytes_are_reports bs t g, bytes_are_reports cs t g) (same_outcome t g (reports_in bs) (reports_in cs) r h);
-      consumed_first = all_or_nothing bs t g;
-      consumed_second = all_or_nothing cs t g;
     }
