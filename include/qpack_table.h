@@ -1,4 +1,4 @@
-/* The QPACK table (RFC 9204), proved: the functions of target/staticlib/libembed.a, which `rt staticlib embed` makes.
+/* The QPACK table (RFC 9204), proved: the functions of target/staticlib/libembed.a, which tests/archive.sh makes.
  *
  * For x86-64 Linux. The library keeps nothing, allocates nothing and calls nothing: a table is a record that goes
  * in by value and comes back changed, and its strings stand in an arena that the caller owns and lends.

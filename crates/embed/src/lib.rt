@@ -17,32 +17,28 @@ pub mod outcomes;
 // ---- the table
 
 // A table with nothing in it, and no room.
-#[unsafe(no_mangle)]
-pub extern "C" fn qpack_fresh() -> Table
+pub fn qpack_fresh() -> Table
     ensures { result ≡ calls.fresh_table }
 {
     Table::fresh()
 }
 
 // Sets the capacity.
-#[unsafe(no_mangle)]
-pub extern "C" fn qpack_set_capacity(table: Table, capacity: usize) -> Outcome
+pub fn qpack_set_capacity(table: Table, capacity: usize) -> Outcome
     ensures { result ≡ spec.outcome_of (calls.set_capacity table capacity) }
 {
     outcomes::told(table.set_capacity(capacity))
 }
 
 // Sets the blocked maximum.
-#[unsafe(no_mangle)]
-pub extern "C" fn qpack_set_max_blocked(table: Table, most: usize) -> Outcome
+pub fn qpack_set_max_blocked(table: Table, most: usize) -> Outcome
     ensures { result ≡ spec.outcome_of (calls.set_most table most) }
 {
     outcomes::told(table.set_max_blocked(most))
 }
 
 // Inserts a field, where it can be.
-#[unsafe(no_mangle)]
-pub extern "C" fn qpack_put(table: Table, arena: &mut [u8], name: &[u8], value: &[u8]) -> Outcome
+pub fn qpack_put(table: Table, arena: &mut [u8], name: &[u8], value: &[u8]) -> Outcome
     ensures value { result ≡ spec.outcome_of (calls.put table arena.old name.now value.now) }
     ensures arena_after { arena.new ≡ calls.bytes_after table result.table arena.old name.now value.now }
 {
@@ -52,29 +48,21 @@ pub extern "C" fn qpack_put(table: Table, arena: &mut [u8], name: &[u8], value: 
 // ---- sections
 
 // Opens a section of a stream.
-#[unsafe(no_mangle)]
-pub extern "C" fn qpack_begin(table: Table, stream: u64) -> Outcome
+pub fn qpack_begin(table: Table, stream: u64) -> Outcome
     ensures { result ≡ spec.outcome_of (calls.begin table stream) }
 {
     outcomes::told(table.begin(stream))
 }
 
 // The latest entry of a field, which the open section then uses.
-#[unsafe(no_mangle)]
-pub extern "C" fn qpack_find(table: Table, arena: &[u8], name: &[u8], value: &[u8]) -> NamedOutcome
+pub fn qpack_find(table: Table, arena: &[u8], name: &[u8], value: &[u8]) -> NamedOutcome
     ensures { result ≡ spec.looked_of (calls.find table arena.now name.now value.now) }
 {
     outcomes::looked(table.find(arena, name, value))
 }
 
 // Inserts a field that the open section then uses, or says what names it.
-#[unsafe(no_mangle)]
-pub extern "C" fn qpack_insert(
-    table: Table,
-    arena: &mut [u8],
-    name: &[u8],
-    value: &[u8],
-) -> NamedOutcome
+pub fn qpack_insert(table: Table, arena: &mut [u8], name: &[u8], value: &[u8]) -> NamedOutcome
     ensures value { result ≡ spec.inserting_of (calls.insert table arena.old name.now value.now) }
     ensures arena_after { arena.new ≡ calls.bytes_after table result.table arena.old name.now value.now }
 {
@@ -82,16 +70,15 @@ pub extern "C" fn qpack_insert(
 }
 
 // Puts the open section into the queue; largest is its largest reference.
-#[unsafe(no_mangle)]
-pub extern "C" fn qpack_commit(table: Table, largest: usize) -> Outcome
+#[inline(always)]
+pub fn qpack_commit(table: Table, largest: usize) -> Outcome
     ensures { result ≡ spec.outcome_of (calls.commit table largest) }
 {
     outcomes::told(table.commit(largest))
 }
 
 // Closes the open section and gives all its references back.
-#[unsafe(no_mangle)]
-pub extern "C" fn qpack_abandon(table: Table) -> Outcome
+pub fn qpack_abandon(table: Table) -> Outcome
     ensures { result ≡ spec.outcome_of (calls.abandon table) }
 {
     outcomes::told(table.abandon())
@@ -100,24 +87,23 @@ pub extern "C" fn qpack_abandon(table: Table) -> Outcome
 // ---- the peer's reports
 
 // The peer acknowledged a section of a stream.
-#[unsafe(no_mangle)]
-pub extern "C" fn qpack_acknowledge(table: Table, stream: u64) -> Outcome
+#[inline(always)]
+pub fn qpack_acknowledge(table: Table, stream: u64) -> Outcome
     ensures { result ≡ spec.outcome_of (calls.release table stream) }
 {
     outcomes::told(table.acknowledge(stream))
 }
 
 // The peer cancelled a stream.
-#[unsafe(no_mangle)]
-pub extern "C" fn qpack_cancel(table: Table, stream: u64) -> Outcome
+#[inline(always)]
+pub fn qpack_cancel(table: Table, stream: u64) -> Outcome
     ensures { result ≡ spec.outcome_of (calls.release table stream) }
 {
     outcomes::told(table.cancel(stream))
 }
 
 // The peer received more inserts.
-#[unsafe(no_mangle)]
-pub extern "C" fn qpack_increment(table: Table, inserts: usize) -> Outcome
+pub fn qpack_increment(table: Table, inserts: usize) -> Outcome
     ensures { result ≡ spec.outcome_of (calls.increment table inserts) }
 {
     outcomes::told(table.increment(inserts))
@@ -126,8 +112,7 @@ pub extern "C" fn qpack_increment(table: Table, inserts: usize) -> Outcome
 // ---- streams
 
 // A call on the encoder stream; the increment goes to out.
-#[unsafe(no_mangle)]
-pub extern "C" fn qpack_on_encoder_recv(
+pub fn qpack_on_encoder_recv(
     table: Table,
     arena: &mut [u8],
     bytes: &[u8],
@@ -150,8 +135,7 @@ pub extern "C" fn qpack_on_encoder_recv(
 }
 
 // A call on the decoder stream.
-#[unsafe(no_mangle)]
-pub extern "C" fn qpack_on_decoder_recv(table: Table, bytes: &[u8]) -> DecoderOutcome
+pub fn qpack_on_decoder_recv(table: Table, bytes: &[u8]) -> DecoderOutcome
     ensures { result ≡ spec.ended_of (receiving table bytes.now) }
 {
     let r = decoder_stream::on_decoder_recv(table, bytes);
@@ -167,8 +151,7 @@ pub extern "C" fn qpack_on_decoder_recv(table: Table, bytes: &[u8]) -> DecoderOu
 // ---- reading sections
 
 // Reads a section on a table.
-#[unsafe(no_mangle)]
-pub extern "C" fn qpack_read_section(
+pub fn qpack_read_section(
     table: Table,
     arena: &[u8],
     bytes: &[u8],
@@ -183,8 +166,7 @@ pub extern "C" fn qpack_read_section(
 }
 
 // Reads a section with no table; most is the largest size sum.
-#[unsafe(no_mangle)]
-pub extern "C" fn qpack_read_stateless(
+pub fn qpack_read_stateless(
     bytes: &[u8],
     most: usize,
     fields: &mut [[usize; 3]],
