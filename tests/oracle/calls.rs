@@ -10,7 +10,7 @@ use std::panic::{catch_unwind, AssertUnwindSafe};
 pub enum Expect {
     /// This very line.
     Line(String),
-    /// A listed difference: document 01's number, and nothing changed.
+    /// A listed difference: the specification's number, and nothing changed.
     Refused(&'static Listed),
 }
 
@@ -105,7 +105,7 @@ fn abandon(t: &mut Table) {
     });
 }
 
-/// Whether a call that the crate made passes a bound or a count of document 01.
+/// Whether a call that the crate made passes a bound or a count of the specification.
 fn past(before: &Table, after: &Table, c: &Command) -> Option<&'static Listed> {
     if matches!(c.op, op::FIND | op::INSERT) && listed::is_section_full(after) {
         return Some(&listed::TRACKING_FULL);

@@ -5,7 +5,7 @@ use crate::table::Table;
 
 pub struct Listed {
     pub name: &'static str,
-    /// The answer that document 01 gives there; none where the answer is the crate's and something else differs.
+    /// The answer that the specification gives there; none where the answer is the crate's and something else differs.
     pub number: Option<u32>,
     pub what: &'static str,
 }
@@ -88,7 +88,7 @@ fn is_commit_full(t: &Table, largest: usize) -> bool {
     r.blocked_count >= 65_535 || (r.blocked_streams.len() >= 64 && !r.blocked_streams.contains_key(&largest))
 }
 
-/// A difference that the input and the table before it tell, in the order of document 01's answers. Such a call is not made on the crate.
+/// A difference that the input and the table before it tell, in the specification's order. Such a call is not made on the crate.
 pub fn before(t: &Table, c: &Command) -> Option<&'static Listed> {
     let first = c.numbers.first().copied().unwrap_or(0);
     if takes_arena(c) && c.arena < WHOLE_ARENA {

@@ -1,7 +1,7 @@
-//! Document 01's number for each of the crate's errors.
+//! The specification's number for each of the crate's errors.
 use h3::qpack::{decoder::DecoderError, dynamic, encoder::EncoderError, parse_error::ParseError, prefix_int, prefix_string, vas};
 
-/// A panic of the crate: no number of document 01.
+/// A panic of the crate: no number of the specification.
 pub const PANIC: u32 = 100;
 
 pub fn of_int(e: &prefix_int::Error) -> u32 {

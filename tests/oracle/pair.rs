@@ -13,7 +13,7 @@ use std::time::{Duration, Instant};
 /// A difference that is on no list.
 pub struct Fault {
     pub command: Command,
-    /// What ours should have answered by the crate and document 01, or what the crate answers where nothing is listed.
+    /// What ours should have answered by the crate and the specification, or what the crate answers where nothing is listed.
     pub expected: String,
     pub ours: String,
 }

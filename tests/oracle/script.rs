@@ -97,7 +97,7 @@ pub fn is_stateless(o: u8) -> bool {
     matches!(o, op::SECTION_STATELESS | op::DECODE_STATELESS)
 }
 
-/// How many bytes of an arena are lent where nothing else is tried: what document 01 asks for.
+/// How many bytes of an arena are lent where nothing else is tried: what the specification asks for.
 pub const WHOLE_ARENA: u64 = 16_384;
 
 impl Command {

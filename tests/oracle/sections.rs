@@ -1,4 +1,4 @@
-//! Sections: what document 01 says of each, line by line with the crate's own reader of one line, and what the crate says of the whole.
+//! Sections: what the specification says of each, line by line with the crate's reader of one line, and what the crate says of the whole.
 use crate::listed::{self, Listed};
 use crate::numbers::{self, PANIC};
 use crate::script::{is_section_on, is_stateless, Command};
@@ -125,7 +125,7 @@ enum By {
     Crate,
 }
 
-/// The lines of a section from a position on, each by the crate; by document 01 with its listed differences.
+/// The lines of a section from a position on, each by the crate; by the specification with its listed differences.
 fn lines(t: &Table, c: &Command, by: By, mut at: usize, base: u64, r: &mut Reading) -> Option<&'static Listed> {
     let s = &c.strings[0];
     let mut used = 0;
@@ -164,7 +164,7 @@ fn counts(t: &Table, c: &Command) -> (u64, u64) {
     if is_section_on(c.op) { (t.rust.vas.inserted as u64, t.rust.max_size as u64) } else { (0, 0) }
 }
 
-/// By document 01: RFC 9204 4.5.1 for the prefix, and then the lines.
+/// By the specification: RFC 9204 4.5.1 for the prefix, and then the lines.
 fn by_document(t: &Table, c: &Command) -> (Reading, Option<&'static Listed>) {
     let s = &c.strings[0];
     let (total, capacity) = counts(t, c);
@@ -213,7 +213,7 @@ fn by_crate(t: &Table, c: &Command) -> Reading {
     if read.number == 0 { read } else { refused(read.number) }
 }
 
-/// A section on a table, or with none: ours is what document 01 says, and so is the crate's, but for a listed difference.
+/// A section on a table, or with none: ours is what the specification says, and so is the crate's, but for a listed difference.
 pub fn section(t: &mut Table, c: &Command, ours: &str) -> Judged {
     let (expected, listed) = by_document(t, c);
     let line = expected.line(c);

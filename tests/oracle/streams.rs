@@ -1,5 +1,5 @@
-//! Calls on the two streams: what document 01 says of each, one instruction after the other with the crate's own functions, and what the
-//! crate says of the whole call.
+//! Calls on the two streams: what the specification says of each, one instruction after the other with the crate's own functions, and what
+//! the crate says of the whole call.
 use crate::listed::{self, Listed};
 use crate::numbers::{self, PANIC};
 use crate::script::Command;
@@ -108,7 +108,7 @@ fn apply(t: &mut Table, s: &[u8]) -> u32 {
     }
 }
 
-/// By document 01: what the call comes to, the difference at which it stops, and how long a refused instruction is that was read whole.
+/// By the specification: what the call comes to, the difference at which it stops, and how long a refused instruction read whole is.
 struct Stream {
     received: Received,
     listed: Option<&'static Listed>,
@@ -145,7 +145,7 @@ fn instructions(t: &mut Table, s: &[u8]) -> Stream {
     ended(received, None, 0)
 }
 
-/// A call on the encoder stream. The crate's table becomes what the call leaves by document 01.
+/// A call on the encoder stream. The crate's table becomes what the call leaves by the specification.
 pub fn on_encoder(t: &mut Table, c: &Command, ours: &str) -> Judged {
     let s = &c.strings[0];
     let mut after = t.clone();
@@ -202,7 +202,7 @@ struct Told {
     cancelled: bool,
 }
 
-/// A report by document 01: "a cancellation releasing one section by `untrack_block`", and no count past 2^62-1.
+/// A report by the specification: "a cancellation releasing one section by `untrack_block`", and no count past 2^62-1.
 fn by_document(t: &mut Table, r: &Report) -> u32 {
     let released = match r {
         Report::Acknowledge(stream) | Report::Cancel(stream) => t.rust.untrack_block(*stream),
@@ -261,7 +261,7 @@ fn whole_reports(t: &mut Table, s: &[u8]) -> (u32, usize) {
     (number, read.position() as usize)
 }
 
-/// A call on the decoder stream: ours is what document 01 says, and the crate's what its own reports come to.
+/// A call on the decoder stream: ours is what the specification says, and the crate's what its own reports come to.
 pub fn on_decoder(t: &mut Table, c: &Command, ours: &str) -> Judged {
     let s = &c.strings[0];
     let (mut after, mut walked) = (t.clone(), t.clone());

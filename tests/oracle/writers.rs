@@ -1,4 +1,4 @@
-//! The writers. A string is written plain: the bytes are those of document 01, and the crate reads them back.
+//! The writers. A string is written plain: the bytes are those of the specification, and the crate reads them back.
 use crate::leaves::{refused, same};
 use crate::listed;
 use crate::script::{op, Command};

@@ -5,29 +5,28 @@ use mathlib.Core.List.{List, [], ◌∷◌, ◌++◌, append_assoc}
 use Prim.Native.Nat.{ℕ, suc, ◌+◌, ◌≤◌, ◌<◌}
 use native.Mathlib.Nat.{add-zero}
 use native.Mathlib.Omega.{arith}
+use Rattle.std.specs.Prelude.{Result, Ok, Err}
 use lib.Dec.{leb}
 use lib.ListN.{length, take, drop, set}
 use lib.Seq.{sets, sets-eq, length-take-le, drop_at}
 use borrow.Author.Tests.{le-leb, lt-leb, leb-true}
-use Rattle.answers.specs.Answer.{Answer, done, refused, and_then}
-use Rattle.answers.specs.Write.{written, fitted, placed, Writes}
+use Rattle.answers.specs.Answer.{Answer, done, refused, and_then, answered}
+use Rattle.answers.specs.Write.{fitted, placed, Writes}
 use Rattle.answers.specs.declared.Refusal.{Refusal}
 use Rattle.answers.specs.declared.Refusal.TheVariants.{OutputFull}
-use Rattle.answers.specs.declared.Written.{Written}
-use Rattle.answers.specs.declared.Written.TheVariants.{Next, Refused}
 
 module _ (w : Answer (List ℕ)) (l : List ℕ) (at : ℕ) where
-  pub writes_refused : (r : Refusal) → w ≡ refused r → Writes w l at (Refused r) l
+  pub writes_refused : (r : Refusal) → w ≡ refused r → Writes w l at (Err r) l
   writes_refused r h = record { answer = rw h; bytes = rw h }
 
   module _ (bytes : List ℕ) (h : w ≡ done bytes) where
-    pub writes_full : length l < at + length bytes → Writes w l at (Refused OutputFull) l
+    pub writes_full : length l < at + length bytes → Writes w l at (Err OutputFull) l
     writes_full long =
         let no_room : leb (at + length bytes) (length l) ≡ false = lt-leb _ _ long in
         record { answer = rw (h, no_room); bytes = rw (h, no_room) }
 
     pub writes_next : (e : ℕ) (m : List ℕ) → at + length bytes ≤ length l → e ≡ at + length bytes → m ≡ sets l at bytes
-        → Writes w l at (Next e) m
+        → Writes w l at (Ok e) m
     writes_next e m room next stores =
         let fits : leb (at + length bytes) (length l) ≡ true = le-leb _ _ room in
         record { answer = rw (h, fits, next); bytes = rw (h, fits) (stores ∙ sets-eq bytes l at room) }
@@ -58,8 +57,8 @@ there l at bytes room =
     rw (fits, append_assoc) (drop_at (take at l) (bytes ++ rest) at front)
 
 -- a write that had room is a run of stores
-pub writes_sets : (bytes l : List ℕ) (at : ℕ) (r : Written) (m : List ℕ) → at + length bytes ≤ length l → Writes (done bytes) l at r m
-    → (written r ≡ done (at + length bytes)) × (m ≡ sets l at bytes)
+pub writes_sets : (bytes l : List ℕ) (at : ℕ) (r : Result ℕ Refusal) (m : List ℕ) → at + length bytes ≤ length l → Writes (done bytes) l at r m
+    → (answered r ≡ done (at + length bytes)) × (m ≡ sets l at bytes)
 writes_sets bytes l at r m room w =
     let fits : leb (at + length bytes) (length l) ≡ true = le-leb _ _ room in
     (rw fits at w.answer, rw fits at w.bytes ∙ sym (sets-eq bytes l at room))

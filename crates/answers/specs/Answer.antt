@@ -1,5 +1,5 @@
--- Document 01, "What the desk answers": the number of each row, and what an answer is.
-use Rattle.std.specs.Prelude.{Bool, cond, ℕ, eqb}
+-- The specification, "What the desk answers": the number of each row, and what an answer is.
+use Rattle.std.specs.Prelude.{Bool, cond, ℕ, eqb, Result, Ok, Err, Option as Maybe, Some, None}
 use Rattle.std.proofs.Math.Option.{Option, some, none}
 use Rattle.answers.specs.declared.Refusal.{Refusal}
 use Rattle.answers.specs.declared.Refusal.TheVariants.{
@@ -64,6 +64,17 @@ number_of InvalidPrefix = 26
 pub data Answer (A : Type 0) : Type 0 where
   done : A → Answer A
   refused : Refusal → Answer A
+
+-- an answer as a call gives it
+abbrev pub answered : {A : Type 0} → Result A Refusal → Answer A
+answered (Ok a) = done a
+answered (Err r) = refused r
+
+-- and where an instruction may be cut: none stands for that
+abbrev pub answered_or_cut : {A : Type 0} → Result (Maybe A) Refusal → Answer (Option A)
+answered_or_cut (Ok (Some a)) = done (some a)
+answered_or_cut (Ok None) = done none
+answered_or_cut (Err r) = refused r
 
 -- the number of an answer
 abbrev pub answer_number : {A : Type 0} → Answer A → ℕ

@@ -1,14 +1,8 @@
 -- What a writer answers and leaves, for every writer: its bytes stand from the given position on, or nothing changed.
-use Rattle.std.specs.Prelude.{◌≡◌, cond, List, ◌++◌, ℕ, ◌+◌, leb, length, take, drop}
-use Rattle.answers.specs.Answer.{Answer, done, refused, and_then}
+use Rattle.std.specs.Prelude.{Result, ◌≡◌, cond, List, ◌++◌, ℕ, ◌+◌, leb, length, take, drop}
+use Rattle.answers.specs.Answer.{Answer, done, refused, and_then, answered}
 use Rattle.answers.specs.declared.Refusal.TheVariants.{OutputFull}
-use Rattle.answers.specs.declared.Written.{Written}
-use Rattle.answers.specs.declared.Written.TheVariants.{Next, Refused}
-
--- row 0 with the position past what was written
-abbrev pub written : Written → Answer ℕ
-written (Next e) = done e
-written (Refused r) = refused r
+use Rattle.answers.specs.declared.Refusal.{Refusal}
 
 -- "24 OutputFull (added): next field or bytes don't fit"
 abbrev pub fitted : List ℕ → ℕ → List ℕ → Answer ℕ
@@ -23,6 +17,6 @@ left (done bytes) l at = placed l at bytes
 left (refused r) l at = l
 
 -- w: the bytes to write, or why there are none; l: the buffer before; m: the buffer after
-pub record Writes (w : Answer (List ℕ)) (l : List ℕ) (at : ℕ) (r : Written) (m : List ℕ) : Type 0 where
-  pub answer : written r ≡ and_then w (fitted l at)
+pub record Writes (w : Answer (List ℕ)) (l : List ℕ) (at : ℕ) (r : Result ℕ Refusal) (m : List ℕ) : Type 0 where
+  pub answer : answered r ≡ and_then w (fitted l at)
   pub bytes : m ≡ left w l at

@@ -1,11 +1,11 @@
-// What the desk answers: the refusals of document 01 by name, and each name's number.
+// What the desk answers: the refusals of the specification by name, and each name's number.
 #![tactic(auto)]
 
 ghost use Rattle.std.specs.Prelude.{◌≡◌};
-ghost use Rattle.answers.specs.Answer.{number_of, ends_early};
+ghost use Rattle.answers.specs.Answer.{answered, answered_or_cut, number_of, ends_early, cut_short};
 
-// The rows 1 to 26, in their order. Row 0 is no refusal: each answer's own enum has it, with its values.
-#[derive(Clone, Copy)]
+// The rows 1 to 26, in their order. Row 0 is no refusal: it is the Ok of a call's Result, with its values.
+#[derive(Clone, Copy, PartialEq, Eq, Debug)]
 pub enum Refusal {
     UnexpectedEnd,
     Overflow,
@@ -73,21 +73,22 @@ pub fn number(r: Refusal) -> u8
 pub fn ends_early(r: Refusal) -> bool
     ensures { result ≡ ends_early r }
 {
-    number(r) == 1
+    matches!(r, Refusal::UnexpectedEnd)
 }
 
-// What a writer did: the position past the bytes that it wrote, or a refusal, which leaves the buffer as it was.
-#[derive(Clone, Copy)]
-pub enum Written {
-    Next(usize),
-    Refused(Refusal),
-}
-
-// What a call that has nothing to give back answers.
-#[derive(Clone, Copy)]
-pub enum Reply {
-    Done,
-    Refused(Refusal),
+// What a reader of one instruction answers: one that is cut is left unread and is no refusal.
+pub fn cut_short<T>(read: Result<T, Refusal>) -> Result<Option<T>, Refusal>
+    ensures { answered_or_cut result ≡ cut_short (answered read) }
+{
+    match read {
+        Ok(whole) => Ok(Some(whole)),
+        Err(why) => {
+            if ends_early(why) {
+                return Ok(None);
+            }
+            Err(why)
+        }
+    }
 }
 
 // Where a search found a name or a field: in the static table, or in the dynamic one below the section's base or above it.
@@ -122,18 +123,4 @@ pub enum Insertion {
         absolute: usize,
     },
     NotInserted(Lookup),
-}
-
-// What a find answers.
-#[derive(Clone, Copy)]
-pub enum Find {
-    Found(Lookup),
-    Refused(Refusal),
-}
-
-// What an insert answers.
-#[derive(Clone, Copy)]
-pub enum Insert {
-    Insertion(Insertion),
-    Refused(Refusal),
 }

@@ -13,8 +13,10 @@ pub record Moving (a₀ : List ℕ) (from to len : ℕ) (a : List ℕ) (p q left
   pub long : length a ≡ length a₀
   pub whole : ring_move left a p q ≡ ring_move len a₀ from to
 
-pub none : (a : List ℕ) (from to len : ℕ) → Moving a from to len a (from % ring) (to % ring) len
+pub none : (a : List ℕ) (from to len : ℕ) → Moving a from to len a (from % ring) (to % ring) (len - 0)
 none a from to len =
+    let n : len - 0 ≡ len = omega arith in
+    rw n
     record {
       low = omega arith;
       low' = omega arith;
@@ -22,16 +24,17 @@ none a from to len =
       whole = move_mod len a (from % ring) (to % ring) from to (omega arith) (omega arith);
     }
 
-module _ (a₀ : List ℕ) (from to len : ℕ) (a : List ℕ) (p q left : ℕ) (w : Moving a₀ from to len a p q left) where
-  pub one : 0 < left → Moving a₀ from to len (set a q (get_or a p 0)) ((p + 1) % ring) ((q + 1) % ring) (left - 1)
+-- after i of them
+module _ (a₀ : List ℕ) (from to len : ℕ) (a : List ℕ) (p q i : ℕ) (w : Moving a₀ from to len a p q (len - i)) where
+  pub one : i < len → Moving a₀ from to len (set a q (get_or a p 0)) ((p + 1) % ring) ((q + 1) % ring) (len - (i + 1))
   one h =
-      let n : left ≡ suc (left - 1) = omega arith in
+      let n : len - i ≡ suc (len - (i + 1)) = omega arith in
       record {
         low = omega arith;
         low' = omega arith;
         long = length-set a q _ ∙ w.long;
-        whole = sym (move_step (left - 1) a p q w.low w.low') ∙ rw n at w.whole;
+        whole = sym (move_step (len - (i + 1)) a p q w.low w.low') ∙ rw n at w.whole;
       }
 
-  pub all : left ≤ 0 → a ≡ ring_move len a₀ from to
-  all h = let n : left ≡ 0 = omega arith in rw n at w.whole
+  pub all : len ≤ i → a ≡ ring_move len a₀ from to
+  all h = let n : len - i ≡ 0 = omega arith in rw n at w.whole

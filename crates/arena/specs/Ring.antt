@@ -1,4 +1,4 @@
--- Document 01: "bytes in the lent arena, wrapping". A position is taken modulo the ring's size.
+-- The specification: "bytes in the lent arena, wrapping". A position is taken modulo the ring's size.
 use Rattle.std.specs.Prelude.{Bool, cond, List, [], ◌∷◌, ℕ, zero, suc, ◌+◌, ◌%◌, leb, length, get_or, set}
 use Rattle.answers.specs.Answer.{Answer, done, refused}
 use Rattle.answers.specs.declared.Refusal.TheVariants.{BadCall}

@@ -6,7 +6,7 @@ ghost use Rattle.answers.specs.Write.{Writes};
 ghost use Rattle.field.specs.Field.{same};
 ghost use Rattle.arena.specs.Ring.{long_enough, ring_read, ring_write, ring_move, ring_cut};
 
-use answers::{Refusal, Written};
+use answers::Refusal;
 
 // How many bytes of the arena the ring takes.
 pub const RING: usize = 16384;
@@ -19,11 +19,9 @@ pub fn write(arena: &mut [u8], at: usize, s: &[u8])
         return;
     }
     let mut q = at % RING;
-    let mut i = 0;
-    while i < s.len() {
-        arena[q] = s[i];
+    for &byte in s {
+        arena[q] = byte;
         q = (q + 1) % RING;
-        i += 1;
     }
 }
 
@@ -34,15 +32,12 @@ pub fn is_at(arena: &[u8], at: usize, s: &[u8]) -> bool
     if arena.len() < RING {
         return false;
     }
-    let n = s.len();
     let mut p = at % RING;
-    let mut i = 0;
-    while i < n {
-        if arena[p] != s[i] {
+    for &byte in s {
+        if arena[p] != byte {
             return false;
         }
         p = (p + 1) % RING;
-        i += 1;
     }
     true
 }
@@ -56,35 +51,37 @@ pub fn move_bytes(arena: &mut [u8], from: usize, to: usize, len: usize)
     }
     let mut p = from % RING;
     let mut q = to % RING;
-    let mut left = len;
-    while 0 < left {
+    for _ in 0..len {
         arena[q] = arena[p];
         p = (p + 1) % RING;
         q = (q + 1) % RING;
-        left -= 1;
     }
 }
 
 // len bytes of the ring, copied to a buffer.
-pub fn copy(arena: &[u8], from: usize, len: usize, buf: &mut [u8], at: usize) -> Written
+pub fn copy(
+    arena: &[u8],
+    from: usize,
+    len: usize,
+    buf: &mut [u8],
+    at: usize,
+) -> Result<usize, Refusal>
     ensures { Writes (ring_cut arena.now from len) buf.old at result buf.new }
 {
     if arena.len() < RING {
-        return Written::Refused(Refusal::BadCall);
+        return Err(Refusal::BadCall);
     }
     if buf.len() < at {
-        return Written::Refused(Refusal::OutputFull);
+        return Err(Refusal::OutputFull);
     }
     if buf.len() - at < len {
-        return Written::Refused(Refusal::OutputFull);
+        return Err(Refusal::OutputFull);
     }
     let end = at + len;
     let mut p = from % RING;
-    let mut i = at;
-    while i < end {
-        buf[i] = arena[p];
+    for place in &mut buf[at..end] {
+        *place = arena[p];
         p = (p + 1) % RING;
-        i += 1;
     }
-    Written::Next(end)
+    Ok(end)
 }

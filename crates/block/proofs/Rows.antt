@@ -19,7 +19,8 @@ use Rattle.forms.specs.declared.HeaderBlockField.TheVariants.{
 }
 use Rattle.forms.specs.declared.Kind.TheVariants.{Line}
 use Rattle.forms.proofs.Every.{width_low, width_high}
-use Rattle.prefix_int.specs.Integer.{Integer, int_at}
+use Rattle.prefix_int.specs.Integer.{int_at}
+use Rattle.prefix_int.specs.declared.Integer.{Integer}
 use Rattle.prefix_int.proofs.Rows.{Row, row_cond, int_row}
 use Rattle.prefix_string.specs.Text.{text_at}
 use Rattle.prefix_string.proofs.Rows.{row_then, text_row}

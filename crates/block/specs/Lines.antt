@@ -1,6 +1,7 @@
 -- The field lines of RFC 9204 4.5, each by itself: what a reader finds at a position, and the bytes that a writer writes.
-use Rattle.std.specs.Prelude.{Bool, true, false, cond, List, ℕ, ◌%◌, leb, eqb, length, get_or}
+use Rattle.std.specs.Prelude.{Result, Ok, Err, Bool, true, false, cond, List, ℕ, ◌%◌, leb, eqb, length, get_or}
 use Rattle.answers.specs.Answer.{Answer, done, refused, and_then}
+use Rattle.answers.specs.declared.Refusal.{Refusal}
 use Rattle.answers.specs.declared.Refusal.TheVariants.{UnexpectedEnd}
 use Rattle.forms.specs.Forms.{form_of, line_kind}
 use Rattle.forms.specs.declared.HeaderBlockField.{HeaderBlockField}
@@ -14,7 +15,8 @@ use Rattle.forms.specs.declared.HeaderBlockField.TheVariants.{
 use Rattle.forms.specs.declared.Kind.TheVariants.{Line}
 use Rattle.prefix_int.specs.Integer.{int_at}
 use Rattle.shapes.specs.Shapes.{text_after, texts_at}
-use Rattle.block.specs.declared.LineRead.{LineRead}
+use Rattle.block.specs.declared.FieldLine.{FieldLine as CodeLine}
+use Rattle.block.specs.declared.FieldLine.TheVariants as code
 use Rattle.line_writing.specs.declared.Reference.{Reference}
 use Rattle.line_writing.specs.declared.Reference.TheVariants.{Static, Relative, PostBase}
 -- the bytes of a line
@@ -63,8 +65,9 @@ line_of s at Indexed = indexed_line s at Indexed false
 unfoldable pub line_at : List ℕ → ℕ → Answer FieldLine
 line_at s at = cond (leb (length s) at) (refused UnexpectedEnd) (line_of s at (line_kind (get_or s at 0)))
 
-abbrev pub line_read : LineRead → Answer FieldLine
-line_read (LineRead.Indexed r e) = done (indexed r e)
-line_read (LineRead.Named r v n e) = done (named r v n e)
-line_read (LineRead.Literal a m b n e) = done (literal a m b n e)
-line_read (LineRead.Refused r) = refused r
+-- a line as the code has it
+abbrev pub line_read : Result CodeLine Refusal → Answer FieldLine
+line_read (Ok (code.Indexed r e)) = done (indexed r e)
+line_read (Ok (code.Named r v n e)) = done (named r v n e)
+line_read (Ok (code.Literal a m b n e)) = done (literal a m b n e)
+line_read (Err r) = refused r

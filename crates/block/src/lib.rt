@@ -14,12 +14,11 @@ ghost use Rattle.block.specs.Lines.{
 use answers::Refusal;
 use forms::{HeaderBlockField, Kind};
 pub use line_writing::{Reference, write_indexed, write_literal, write_named};
-use prefix_int::IntRead;
-use shapes::{IntTextRead, TextsRead};
 
 // A line: a whole field by its index, a name by its index and a value, or both strings; and the position past it.
+// Strings stand by their places, as in `prefix_string::Text`.
 #[derive(Clone, Copy)]
-pub enum LineRead {
+pub enum FieldLine {
     Indexed {
         field: Reference,
         next: usize,
@@ -37,7 +36,6 @@ pub enum LineRead {
         value_len: usize,
         next: usize,
     },
-    Refused(Refusal),
 }
 
 // The entry that an index names: T, the lowest flag, says in which table, and a post-base line has no T.
@@ -54,78 +52,67 @@ fn reference_of(post_base: bool, flags: u8, index: u64) -> Reference
 }
 
 // A line that is one index.
-fn read_indexed(s: &[u8], at: usize, kind: HeaderBlockField, post_base: bool) -> LineRead
+#[tactic(auto, unfolding(crate::specs::Lines::indexed_line))]
+fn read_indexed(
+    s: &[u8],
+    at: usize,
+    kind: HeaderBlockField,
+    post_base: bool,
+) -> Result<FieldLine, Refusal>
     ensures { line_read result ≡ indexed_line s.now at kind post_base }
 {
     let form = forms::form_of(Kind::Line(kind));
-    let i = prefix_int::read(s, at, form.width as u32);
-    match i {
-        IntRead::Int { flags, value, next } => {
-            let field = reference_of(post_base, flags, value);
-            LineRead::Indexed { field, next }
-        }
-        IntRead::Refused(why) => LineRead::Refused(why),
-    }
+    let index = prefix_int::read(s, at, form.width as u32)?;
+    Ok(FieldLine::Indexed {
+        field: reference_of(post_base, index.flags, index.value),
+        next: index.next,
+    })
 }
 
 // A line with a name by its index, and a value.
-fn read_named(s: &[u8], at: usize, kind: HeaderBlockField, post_base: bool) -> LineRead
+#[tactic(auto, unfolding(crate::specs::Lines::named_line))]
+fn read_named(
+    s: &[u8],
+    at: usize,
+    kind: HeaderBlockField,
+    post_base: bool,
+) -> Result<FieldLine, Refusal>
     ensures { line_read result ≡ named_line s.now at kind post_base }
 {
     let form = forms::form_of(Kind::Line(kind));
-    let i = prefix_int::read(s, at, form.width as u32);
-    let t = shapes::text_after(s, i);
-    match t {
-        IntTextRead::IntText {
-            flags,
-            index,
-            start,
-            len,
-            next,
-        } => {
-            let name = reference_of(post_base, flags, index);
-            LineRead::Named {
-                name,
-                value: start,
-                value_len: len,
-                next,
-            }
-        }
-        IntTextRead::Refused(why) => LineRead::Refused(why),
-    }
+    let index = prefix_int::read(s, at, form.width as u32);
+    let text = shapes::text_after(s, index)?;
+    Ok(FieldLine::Named {
+        name: reference_of(post_base, text.flags, text.index),
+        value: text.start,
+        value_len: text.len,
+        next: text.next,
+    })
 }
 
 // A line with both strings.
-fn read_literal(s: &[u8], at: usize) -> LineRead
+#[tactic(auto, unfolding(crate::specs::Lines::literal_line))]
+fn read_literal(s: &[u8], at: usize) -> Result<FieldLine, Refusal>
     ensures { line_read result ≡ literal_line s.now at }
 {
     let form = forms::form_of(Kind::Line(HeaderBlockField::Literal));
-    let t = shapes::texts(s, at, form.width as u32);
-    match t {
-        TextsRead::Texts {
-            flags: _,
-            name,
-            name_len,
-            value,
-            value_len,
-            next,
-        } => LineRead::Literal {
-            name,
-            name_len,
-            value,
-            value_len,
-            next,
-        },
-        TextsRead::Refused(why) => LineRead::Refused(why),
-    }
+    let texts = shapes::texts(s, at, form.width as u32)?;
+    Ok(FieldLine::Literal {
+        name: texts.name,
+        name_len: texts.name_len,
+        value: texts.value,
+        value_len: texts.value_len,
+        next: texts.next,
+    })
 }
 
 // The line at a position.
-pub fn read_line(s: &[u8], at: usize) -> LineRead
+#[tactic(auto, unfolding(crate::specs::Lines::line_at, crate::specs::Lines::line_of))]
+pub fn read_line(s: &[u8], at: usize) -> Result<FieldLine, Refusal>
     ensures { line_read result ≡ line_at s.now at }
 {
     if s.len() <= at {
-        return LineRead::Refused(Refusal::UnexpectedEnd);
+        return Err(Refusal::UnexpectedEnd);
     }
     let kind = forms::line_kind(s[at]);
     match kind {

@@ -15,10 +15,10 @@ use Rattle.model.specs.Bounds.{blocked_values, blocked_sections}
 use Rattle.model.specs.Report.{above}
 use Rattle.model.specs.Section.{block_in}
 use Rattle.model.specs.Table.{Blocked, blocked_count}
-use Rattle.blocked.specs.declared.Counted.{Counted}
 use Rattle.blocked.specs.declared.Value.{Value}
 use Rattle.blocked.specs.declared.Waiting.{Waiting}
 use Rattle.blocked.specs.Waiting.{
+  Counted,
   no_value,
   blocked_of,
   values_of,

@@ -4,27 +4,25 @@ use mathlib.Core.Bool.{true, false}
 use mathlib.Core.List.{List, [], ◌∷◌}
 use Prim.Native.Nat.{ℕ, zero, suc, ◌+◌, ◌≤◌, ◌<◌}
 use native.Mathlib.Omega.{arith}
-use lib.ListN.{length, get_or, set}
-use lib.Seq.{get_or-take, length-take-le}
+use lib.ListN.{get_or, set}
+use lib.Seq.{get_or-take}
 use borrow.Author.Tests.{lt-ltb, le-ltb}
 use Rattle.model.specs.Bounds.{blocked_values, blocked_sections}
 use Rattle.blocked.specs.declared.Value.{Value}
 use Rattle.blocked.specs.declared.Waiting.{Waiting}
 use Rattle.blocked.specs.Waiting.{no_value, values_of, sum_of, value_at, keeps_count, blocking}
-use Rattle.blocked.proofs.Counting.{few_values, few_sections, sums_up}
+use Rattle.blocked.proofs.Counting.{few_sections, sums_up}
 
 -- no value has more sections than all
-part_of_sum : (l : List Value) (i : ℕ) (d : Value) → i < length l → (get_or l i d).sections ≤ sum_of l
-part_of_sum [] i d h = absurd (omega arith)
-part_of_sum (v ∷ l) zero d h = omega arith
-part_of_sum (v ∷ l) (suc i) d h = omega (arith, part_of_sum l i d (omega arith))
+part_of_sum : (l : List Value) (i : ℕ) → (get_or l i no_value).sections ≤ sum_of l
+part_of_sum [] i = omega arith
+part_of_sum (v ∷ l) zero = omega arith
+part_of_sum (v ∷ l) (suc i) = omega (arith, part_of_sum l i)
 
-pub bounded : (w : Waiting) → keeps_count w ≡ true → length w.values ≡ blocked_values → (i : ℕ) → i < w.distinct
-    → (get_or w.values i no_value).sections ≤ blocked_sections
-bounded w h long i g =
-    let n : length (values_of w) ≡ w.distinct = length-take-le w.distinct w.values (omega (arith, few_values w h)) in
+pub bounded : (w : Waiting) → keeps_count w ≡ true → (i : ℕ) → i < w.distinct → (get_or w.values i no_value).sections ≤ blocked_sections
+bounded w h i g =
     let s : get_or (values_of w) i no_value ≡ get_or w.values i no_value = get_or-take w.distinct w.values i no_value g in
-    let p : (get_or w.values i no_value).sections ≤ sum_of (values_of w) = rw s at (part_of_sum (values_of w) i no_value (omega arith)) in
+    let p : (get_or w.values i no_value).sections ≤ sum_of (values_of w) = rw s at (part_of_sum (values_of w) i) in
     omega (arith, sums_up w h, few_sections w h)
 
 module _ (w : Waiting) (x : ℕ) where

@@ -7,14 +7,13 @@ use native.Mathlib.Nat.{zero-add}
 use native.Mathlib.Numerals.{add-one}
 use native.Mathlib.Omega.{arith}
 use lib.Dec.{leb}
-use lib.ListN.{length, get_or, take, drop, set, replicate, length-append}
-use lib.Seq.{append_snoc, set_at}
+use lib.ListN.{length, get_or, drop, drop_of_length-le, set, replicate, length-append}
+use lib.Seq.{append_snoc, drop-cons, set_at}
 use borrow.Author.Tests.{le-leb, lt-leb}
 use Rattle.model.specs.Bounds.{blocked_values, blocked_sections}
 use Rattle.blocked.specs.declared.Value.{Value}
 use Rattle.blocked.specs.declared.Waiting.{Waiting}
 use Rattle.blocked.specs.Waiting.{no_value, values_of, sum_of, keeps_count, kept, let_go_of, let_go}
-use Rattle.blocked.proofs.Lists.{next, none_left}
 
 pub sum_append : (l m : List Value) → sum_of (l ++ m) ≡ sum_of l + sum_of m
 sum_append [] m = sym (zero-add _)
@@ -28,25 +27,23 @@ kept_sum k (v ∷ l) = go (leb v.largest k) (kept_sum k l)
     go true r = omega arith
     go false r = omega arith
 
-pub record Keeping (k n : ℕ) (l values : List Value) (total count i : ℕ) : Type 0 where
+pub record Keeping (k : ℕ) (l values : List Value) (total count i : ℕ) : Type 0 where
   pub so_far : List Value
-  pub few : n ≤ blocked_values
-  pub room : n ≤ length l
-  pub bound : sum_of (take n l) ≤ blocked_sections
-  pub passed : i ≤ n
+  pub few : length l ≤ blocked_values
+  pub bound : sum_of l ≤ blocked_sections
+  pub passed : i ≤ length l
   pub behind : count ≤ i
   pub size : length so_far ≡ count
   pub sum : sum_of so_far ≡ total
   pub shape : values ≡ so_far ++ replicate (blocked_values - count) no_value
-  pub whole : so_far ++ kept k (drop i (take n l)) ≡ kept k (take n l)
+  pub whole : so_far ++ kept k (drop i l) ≡ kept k l
 
-module _ (k n : ℕ) (l : List Value) where
-  pub none_kept : n ≤ blocked_values → n ≤ length l → sum_of (take n l) ≤ blocked_sections → Keeping k n l (replicate blocked_values no_value) 0 0 0
-  none_kept f g b =
+module _ (k : ℕ) (l : List Value) where
+  pub none_kept : length l ≤ blocked_values → sum_of l ≤ blocked_sections → Keeping k l (replicate blocked_values no_value) 0 0 0
+  none_kept f b =
       record {
         so_far = [];
         few = f;
-        room = g;
         bound = b;
         passed = omega arith;
         behind = omega arith;
@@ -56,17 +53,16 @@ module _ (k n : ℕ) (l : List Value) where
         whole = refl;
       }
 
-  module _ (values : List Value) (total count i : ℕ) (w : Keeping k n l values total count i) where
-    module _ (d : Value) (h : i < n) where
-      rest : drop i (take n l) ≡ get_or l i d ∷ drop (i + 1) (take n l)
-      rest = rw (next n l i d w.room h, add-one)
+  module _ (values : List Value) (total count i : ℕ) (w : Keeping k l values total count i) where
+    module _ (d : Value) (h : i < length l) where
+      rest : drop i l ≡ get_or l i d ∷ drop (i + 1) l
+      rest = rw (drop-cons l i d h, add-one)
 
-      pub gone : (get_or l i d).largest ≤ k → Keeping k n l values total count (i + 1)
+      pub gone : (get_or l i d).largest ≤ k → Keeping k l values total count (i + 1)
       gone g =
           record {
             so_far = w.so_far;
             few = w.few;
-            room = w.room;
             bound = w.bound;
             passed = omega arith;
             behind = omega (arith, w.behind);
@@ -77,18 +73,17 @@ module _ (k n : ℕ) (l : List Value) where
           }
 
       module _ (g : k < (get_or l i d).largest) where
-        more : w.so_far ++ (get_or l i d ∷ kept k (drop (i + 1) (take n l))) ≡ kept k (take n l)
+        more : w.so_far ++ (get_or l i d ∷ kept k (drop (i + 1) l)) ≡ kept k l
         more = rw (rest, lt-leb (get_or l i d).largest k g) at w.whole
 
         pub fits : total + (get_or l i d).sections ≤ blocked_sections
-        fits = omega (arith, kept_sum k (take n l), w.bound, w.sum, sym (sum_append w.so_far _) ∙ ap sum_of more)
+        fits = omega (arith, kept_sum k l, w.bound, w.sum, sym (sum_append w.so_far _) ∙ ap sum_of more)
 
-        pub one_kept : Keeping k n l (set values count (get_or l i d)) (total + (get_or l i d).sections) (count + 1) (i + 1)
+        pub one_kept : Keeping k l (set values count (get_or l i d)) (total + (get_or l i d).sections) (count + 1) (i + 1)
         one_kept =
             record {
               so_far = w.so_far ++ (get_or l i d ∷ []);
               few = w.few;
-              room = w.room;
               bound = w.bound;
               passed = omega arith;
               behind = omega (arith, w.behind);
@@ -101,10 +96,10 @@ module _ (k n : ℕ) (l : List Value) where
               whole = rw append_snoc more;
             }
 
-    pub all_kept : n ≤ i → record { total = total; distinct = count; values = values } ≡ let_go_of k (take n l)
+    pub all_kept : length l ≤ i → record { total = total; distinct = count; values = values } ≡ let_go_of k l
     all_kept h =
-        let e : w.so_far ++ [] ≡ kept k (take n l) = rw (none_left n l i w.room h) at w.whole in
-        let f : w.so_far ≡ kept k (take n l) = rw append-nil at e in
+        let e : w.so_far ++ [] ≡ kept k l = rw (drop_of_length-le l {i = i} h) at w.whole in
+        let f : w.so_far ≡ kept k l = rw append-nil at e in
         rw (← f, w.size, w.sum, w.shape)
 
 module _ (w : Waiting) (k : ℕ) where

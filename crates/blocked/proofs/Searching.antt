@@ -1,35 +1,36 @@
--- What a loop that searches the first n elements keeps: what is left gives what the whole gives. Assumes nothing.
-use mathlib.Core.Path.{◌≡◌, sym, ◌∙◌}
+-- The library's search for the first element that passes a test finds the first with a number. Assumes nothing.
+use mathlib.Core.Path.{◌≡◌, refl, sym, ap, ◌∙◌}
+use mathlib.Core.Bool.{Bool, true, false, cond}
 use mathlib.Core.List.{List}
-use Prim.Native.Nat.{ℕ, ◌+◌, ◌≤◌, ◌<◌}
-use native.Mathlib.Nat.{add-zero, zero-add}
-use native.Mathlib.Numerals.{add-one}
+use Prim.Native.Nat.{ℕ, ◌≤◌, ◌<◌}
 use native.Mathlib.Omega.{arith}
-use lib.ListN.{length, get_or, take, drop}
-use borrow.Author.Tests.{eq-eqb, ne_eqb}
+use lib.Dec.{eqb, ltb}
+use lib.ListN.{length}
+use borrow.Author.Tests.{ltb-true, ltb-false}
+use Rattle.std.specs.Prelude.{Some, None, Option, position}
+use Rattle.std.specs.List.{position_or_len}
+use Rattle.std.proofs.lemmas.List.Recursion.{is_position_or_len}
 use Rattle.blocked.specs.Search.{first_of}
-use Rattle.blocked.proofs.Lists.{next, none_left}
 
-pub record Searching {A : Type 0} (f : A → ℕ) (x n : ℕ) (l : List A) (i : ℕ) : Type 0 where
-  pub passed : i ≤ n
-  pub room : n ≤ length l
-  pub rest : first_of f x (take n l) ≡ i + first_of f x (drop i (take n l))
+module _ {A : Type 0} (f : A → ℕ) (x : ℕ) (l : List A) where
+  abbrev pub has : A → Bool
+  has a = eqb (f a) x
 
-module _ {A : Type 0} (f : A → ℕ) (x n : ℕ) (l : List A) where
-  pub not_yet : n ≤ length l → Searching f x n l 0
-  not_yet h = record { passed = omega arith; room = h; rest = sym (zero-add _) }
+  same_place : first_of f x l ≡ position_or_len has l
+  same_place = is_position_or_len (first_of f x) has refl (λ a m. ap (λ (n : ℕ). cond (has a) 0 n) (omega arith)) l
 
-  module _ (i : ℕ) (w : Searching f x n l i) where
-    pub here : (d : A) → i < n → f (get_or l i d) ≡ x → i ≡ first_of f x (take n l)
-    here d h e =
-        let first : first_of f x (drop i (take n l)) ≡ 0 = rw (next n l i d w.room h, eq-eqb (f (get_or l i d)) x e) in
-        omega (arith, w.rest)
+  pub found : (i : ℕ) → position has l ≡ Some i → (i ≡ first_of f x l) × (i < length l)
+  found i h = go (ltb (position_or_len has l) (length l)) refl h
+    where
+      go : (b : Bool) → ltb (position_or_len has l) (length l) ≡ b
+          → ◌≡◌ {A = Option ℕ} (cond b (Some (position_or_len has l)) None) (Some i) → (i ≡ first_of f x l) × (i < length l)
+      go true e q = let s : position_or_len has l ≡ i = cc in (sym (same_place ∙ s), omega (arith, ltb-true _ _ e))
+      go false e q = let z : ◌≡◌ {A = ℕ} 0 1 = cc in absurd (omega arith)
 
-    pub not_here : (d : A) → i < n → (f (get_or l i d) ≡ x → ⊥) → Searching f x n l (i + 1)
-    not_here d h e =
-        let more : first_of f x (drop i (take n l)) ≡ 1 + first_of f x (drop (i + 1) (take n l)) =
-        rw (next n l i d w.room h, ne_eqb (f (get_or l i d)) x e, add-one) (omega arith) in
-        record { passed = omega arith; room = w.room; rest = omega (arith, w.rest) }
-
-    pub nowhere : n ≤ i → i ≡ first_of f x (take n l)
-    nowhere h = sym (w.rest ∙ rw (none_left n l i w.room h) (add-zero i))
+  pub absent : position has l ≡ None → length l ≤ first_of f x l
+  absent h = go (ltb (position_or_len has l) (length l)) refl h
+    where
+      go : (b : Bool) → ltb (position_or_len has l) (length l) ≡ b
+          → ◌≡◌ {A = Option ℕ} (cond b (Some (position_or_len has l)) None) None → length l ≤ first_of f x l
+      go true e q = let z : ◌≡◌ {A = ℕ} 0 1 = cc in absurd (omega arith)
+      go false e q = rw same_place (ltb-false _ _ e)

@@ -1,8 +1,7 @@
 -- The blocked sections by their largest reference in their array, and what they are in the model.
-use Rattle.std.specs.Prelude.{Bool, true, false, ◌&&◌, cond, List, [], ◌∷◌, ◌++◌, map, ℕ, ◌+◌, ◌-◌, leb, ltb, eqb, length, get_or, take, set, replicate}
+use Rattle.std.specs.Prelude.{Some, None, Option, Bool, true, false, ◌&&◌, cond, List, [], ◌∷◌, ◌++◌, map, ℕ, ◌+◌, ◌-◌, leb, ltb, eqb, length, get_or, take, set, replicate}
 use Rattle.model.specs.Bounds.{blocked_values, blocked_sections}
 use Rattle.model.specs.Table.{Blocked}
-use Rattle.blocked.specs.declared.Counted.{Counted}
 use Rattle.blocked.specs.declared.Value.{Value}
 use Rattle.blocked.specs.declared.Waiting.{Waiting}
 use Rattle.blocked.specs.Search.{first_of}
@@ -31,6 +30,15 @@ keeps_count w =
 
 abbrev pub value_at : ℕ → List Value → ℕ
 value_at x l = first_of (λ (v : Value). v.largest) x l
+
+-- the blocked sections with one more, or as they were where a bound would be passed
+pub record Counted : Type 0 where
+  pub fits : Bool
+  pub waiting : Waiting
+
+abbrev pub counted : Waiting → Option Waiting → Counted
+counted w (Some next) = record { fits = true; waiting = next }
+counted w None = record { fits = false; waiting = w }
 
 abbrev pub counted_at : Waiting → ℕ → ℕ → Counted
 counted_at w x i =

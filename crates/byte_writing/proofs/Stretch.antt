@@ -9,11 +9,11 @@ use lib.Dec.{leb}
 use lib.ListN.{length, get_or, take, drop, set, length-take, length-drop, drop_of_length-le}
 use lib.Seq.{sets, drop-cons, get_or-take, get_or-drop, take-length}
 use borrow.Author.Tests.{le-leb, lt-leb, leb-true, leb-false}
-use Rattle.answers.specs.Answer.{done, refused}
-use Rattle.answers.specs.Write.{written, Writes}
+use Rattle.std.specs.Prelude.{Result, Ok, Err}
+use Rattle.answers.specs.declared.Refusal.{Refusal}
+use Rattle.answers.specs.Answer.{answered, done, refused}
+use Rattle.answers.specs.Write.{Writes}
 use Rattle.answers.specs.declared.Refusal.TheVariants.{BadCall, OutputFull}
-use Rattle.answers.specs.declared.Written.{Written}
-use Rattle.answers.specs.declared.Written.TheVariants.{Next, Refused}
 use Rattle.answers.proofs.Write.{writes_refused, writes_full, writes_next, writes_sets}
 use Rattle.byte_writing.specs.Stretch.{stretch_of}
 
@@ -46,35 +46,11 @@ module _ (b : List ℕ) (start len : ℕ) (inside : start + len ≤ length b) wh
   pub cut_end : (i : ℕ) → len ≤ i → drop i (cut b start len) ≡ []
   cut_end i h = drop_of_length-le (cut b start len) {i = i} (omega (arith, cut_length))
 
-  -- one byte of a copy, and its end
-  pub put_more : (l : List ℕ) (at i : ℕ) → i < len
-      → sets (set l (at + i) (get_or b (start + i) 0)) (at + (i + 1)) (drop (i + 1) (cut b start len)) ≡ sets l (at + i) (drop i (cut b start len))
-  put_more l at i h =
-      let e : at + suc i ≡ suc (at + i) = omega arith in
-      rw (cut_front i h, add-one, e)
-
-  pub put_end : (l : List ℕ) (at i : ℕ) → len ≤ i → sets l at (drop i (cut b start len)) ≡ l
-  put_end l at i h = rw (cut_end i h)
-
--- each way out of a write
 module _ (b : List ℕ) (start len : ℕ) (l : List ℕ) (at : ℕ) where
-  pub write_bad : length b < start + len → Writes (stretch_of b start len) l at (Refused BadCall) l
-  write_bad h = writes_refused _ l at BadCall (stretch_refused b start len h)
-
   module _ (inside : start + len ≤ length b) where
-    pub write_full : length l < at + len → Writes (stretch_of b start len) l at (Refused OutputFull) l
-    write_full f =
-        writes_full _ l at (cut b start len) (stretch_done b start len inside) (omega (arith, cut_length b start len inside))
-
-    pub write_next : (m : List ℕ) → at + len ≤ length l → m ≡ sets l at (cut b start len)
-        → Writes (stretch_of b start len) l at (Next (at + len)) m
-    write_next m f s =
-        let long = cut_length b start len inside in
-        writes_next _ l at (cut b start len) (stretch_done b start len inside) _ m (omega (arith, long)) (omega (arith, long)) s
-
     -- what a write tells its caller, where the stretch is inside and there is room
-    pub write_sets : (r : Written) (m : List ℕ) → at + len ≤ length l → Writes (stretch_of b start len) l at r m
-        → (written r ≡ done (at + len)) × (m ≡ sets l at (cut b start len))
+    pub write_sets : (r : Result ℕ Refusal) (m : List ℕ) → at + len ≤ length l → Writes (stretch_of b start len) l at r m
+        → (answered r ≡ done (at + len)) × (m ≡ sets l at (cut b start len))
     write_sets r m f w =
         let long = cut_length b start len inside in
         let v : Writes (done (cut b start len)) l at r m = rw (stretch_done b start len inside) at w in
@@ -82,7 +58,7 @@ module _ (b : List ℕ) (start len : ℕ) (l : List ℕ) (at : ℕ) where
         (rw long at q.0, q.1)
 
 -- the same for all of a text
-pub text_sets : (text l : List ℕ) (at : ℕ) (r : Written) (m : List ℕ) → at + length text ≤ length l → Writes (stretch_of text 0 (length text)) l at r m
-    → (written r ≡ done (at + length text)) × (m ≡ sets l at text)
+pub text_sets : (text l : List ℕ) (at : ℕ) (r : Result ℕ Refusal) (m : List ℕ) → at + length text ≤ length l → Writes (stretch_of text 0 (length text)) l at r m
+    → (answered r ≡ done (at + length text)) × (m ≡ sets l at text)
 text_sets text l at r m room w =
     rw (take-length text) at (write_sets text 0 (length text) l at (omega arith) r m room w)

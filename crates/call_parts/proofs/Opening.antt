@@ -1,13 +1,12 @@
 -- The rules of an open section as facts, and what its floor says of them. Assumes nothing.
-use mathlib.Core.Path.{◌≡◌, refl}
+use mathlib.Core.Path.{◌≡◌}
 use mathlib.Core.Bool.{Bool, true, false, cond}
 use Prim.Native.Nat.{ℕ, ◌+◌, ◌≤◌}
 use lib.Dec.{leb}
 use borrow.Author.Tests.{leb-true, le-leb}
 use Rattle.entries.specs.Entry.{slots}
 use Rattle.entries.proofs.Chain.{and_left, and_right}
-use Rattle.tracking.specs.Queue.{section_live, section_floor, lowest, no_floor}
-use Rattle.tracking.specs.declared.Floor.{Floor}
+use Rattle.tracking.specs.Queue.{Floor, section_live, lowest, no_floor}
 use Rattle.tracking.specs.declared.Section.{Section}
 use Rattle.call_parts.specs.Parts.{uses_here, open_rules, open_floor}
 
@@ -19,20 +18,6 @@ module _ (b : Bool) (low least : ℕ) where
   pub live_by : (c : Bool) → b ≡ c → floor_by.live ≡ c
   live_by true e = rw e
   live_by false e = rw e
-
--- one section
-module _ (s : Section) (d i low : ℕ) where
-  pub section_lives : (section_floor s d i low).live ≡ section_live d i s
-  unfolding section_floor
-  section_lives = live_by (section_live d i s) low (lowest low (uses_here s)) _ refl
-
-  pub section_low : section_live d i s ≡ true → section_floor s d i low ≡ record { live = true; low = lowest low (uses_here s) }
-  unfolding section_floor
-  section_low h = rw h
-
-  pub section_breaks : section_live d i s ≡ false → section_floor s d i low ≡ no_floor low
-  unfolding section_floor
-  section_breaks h = rw h
 
 pub open_found : (on : Bool) (base : ℕ) (s : Section) (d i low : ℕ) → on ≡ true → open_rules base s d i ≡ true
     → ◌≡◌ {A = Floor} (record { live = true; low = lowest low (uses_here s) }) (open_floor on base s d i low)

@@ -1,24 +1,18 @@
 -- What the calls are made of, over the parts of a record: tests of a capacity, a put's answer, the open section.
-use Rattle.std.specs.Prelude.{Bool, true, false, ◌&&◌, cond, List, ℕ, ◌+◌, leb, ltb, eqb}
+use Rattle.std.specs.Prelude.{Result, Ok, Err, Bool, true, false, ◌&&◌, cond, List, ℕ, ◌+◌, leb, ltb, eqb}
 use Rattle.std.proofs.Math.Option.{Option, some, none}
 use Rattle.answers.specs.declared.Refusal.{Refusal}
 use Rattle.answers.specs.declared.Refusal.TheVariants.{MaxTableSizeReached, MaximumTableSizeTooLarge, AboveLentRoom, BadCall, CountTooLarge}
-use Rattle.answers.specs.declared.Reply.{Reply}
-use Rattle.blocked.specs.Waiting.{blocking}
-use Rattle.blocked.specs.declared.Counted.{Counted}
+use Rattle.blocked.specs.Waiting.{Counted, blocking}
 use Rattle.blocked.specs.declared.Waiting.{Waiting}
 use Rattle.entries.specs.Entry.{slots}
 use Rattle.model.specs.Bounds.{largest_capacity, lent_room}
 use Rattle.model.specs.Table as model
 use Rattle.ring.specs.declared.Push.{Push}
 use Rattle.ring.specs.declared.Push.TheVariants.{Made, TooLarge, NoRoom, Full}
-use Rattle.tracking.specs.Queue.{section_live, lowest}
-use Rattle.tracking.specs.Uses.{uses_of}
-use Rattle.tracking.specs.declared.Floor.{Floor}
-use Rattle.tracking.specs.declared.Noted.{Noted}
+use Rattle.tracking.specs.Queue.{Floor, section_live, lowest}
+use Rattle.tracking.specs.Uses.{Noted, uses_of}
 use Rattle.tracking.specs.declared.Section.{Section}
-use Rattle.call_parts.specs.declared.CapacityTest.{CapacityTest}
-use Rattle.call_parts.specs.declared.CapacityTest.TheVariants.{Within}
 
 -- ---- an open section
 
@@ -39,20 +33,20 @@ open_floor active base s d i low =
 -- ---- answers and uses
 
 -- "9: capacity above 1,073,741,823. 10: capacity 16,385 to 1,073,741,823"
-abbrev pub tested : CapacityTest → Option Refusal
-tested Within = none
-tested (CapacityTest.Refused r) = some r
+abbrev pub tested : Result Unit Refusal → Option Refusal
+tested (Ok tt) = none
+tested (Err r) = some r
 
 unfoldable pub capacity_answer : ℕ → Option Refusal
 capacity_answer c = cond (ltb largest_capacity c) (some MaximumTableSizeTooLarge) (cond (ltb lent_room c) (some AboveLentRoom) none)
 
 -- what a put answers: "at capacity 0, or kept out by references, answers 0 and does nothing"; "8: `put` larger than a capacity above 0"
-unfoldable pub push_reply : ℕ → Push → Reply
-push_reply c Made = Reply.Done
-push_reply c TooLarge = cond (eqb c 0) Reply.Done (Reply.Refused MaxTableSizeReached)
-push_reply c NoRoom = Reply.Done
-push_reply c Full = Reply.Refused CountTooLarge
-push_reply c Push.BadCall = Reply.Refused BadCall
+unfoldable pub push_reply : ℕ → Push → Result Unit Refusal
+push_reply c Made = (Ok tt)
+push_reply c TooLarge = cond (eqb c 0) (Ok tt) (Err MaxTableSizeReached)
+push_reply c NoRoom = (Ok tt)
+push_reply c Full = Err CountTooLarge
+push_reply c Push.BadCall = Err BadCall
 
 -- "if the largest reference is above the known received count it counts one blocked section"
 abbrev pub counted_with : Waiting → ℕ → ℕ → Counted

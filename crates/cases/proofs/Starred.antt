@@ -1,4 +1,4 @@
--- Every starred case of document 01 holds. Assumes nothing.
+-- Every starred case of the specification holds. Assumes nothing.
 use mathlib.Core.Path.{refl}
 use Rattle.prefix_int.specs.Integer.{int_from, groups, encode, spell}
 use Rattle.stream.specs.Instructions.{kind_int, integer_at, integer_bytes}

@@ -1,4 +1,4 @@
--- Document 01, "Readings on each side of the line": the starred cases as one table, and what it means that a row holds.
+-- The specification, "Readings on each side of the line": the starred cases as one table, and what it means that a row holds.
 use Rattle.std.specs.Prelude.{◌≡◌, List, [], ◌∷◌, ℕ, length}
 use Rattle.std.proofs.Math.Option.{some}
 use Rattle.answers.specs.Answer.{done, refused}

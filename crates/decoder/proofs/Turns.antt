@@ -6,13 +6,15 @@ use Prim.Native.Nat.{ℕ, zero, suc, ◌+◌, ◌-◌, ◌≤◌, ◌<◌}
 use native.Mathlib.Omega.{arith}
 use lib.ListN.{length, set, length-set}
 use lib.Seq.{sets}
+use Rattle.std.specs.Prelude.{Result, Err}
 use Rattle.answers.specs.Answer.{done, refused}
 use Rattle.answers.specs.declared.Refusal.{Refusal}
-use Rattle.answers.specs.declared.Reply.{Reply}
 use Rattle.decoder.specs.Section.{Reader, start, cursor_at, ended_of, line_of, bytes_at, out_of, section_of, read_from, read_all}
 use Rattle.section_steps.specs.declared.Cursor.{Cursor}
 use Rattle.section_steps.specs.declared.Field.{Field}
-use Rattle.section_steps.specs.declared.Line.{Line}
+use Rattle.section_steps.specs.Section.{Line, line_told, decoded_of}
+use Rattle.section_steps.specs.declared.Line.{Line as CodeLine}
+use Rattle.section_steps.specs.declared.Line.TheVariants as code
 use Rattle.section_steps.proofs.Going.{Goes, line_goes}
 use Rattle.section_steps.proofs.Stepping.{has_started, stays_past, same_at, same_count, same_used}
 
@@ -47,7 +49,7 @@ module _ {R : Type 0} (make : Field → R) (k : Reader) (n : ℕ) (s : List ℕ)
   read_past fs out = rw (stays_past k s c d h d (has_started k s c d h), h, same_count k s c d h, same_used k s c d h)
 
 pub read_unread : {R : Type 0} (make : Field → R) (k : Reader) (n : ℕ) (s : List ℕ) (c : Cursor) (r : Refusal) → cursor_at k s c ≡ refused r
-    → (fs : List R) (out : List ℕ) → section_of (ended_of (Reply.Refused r) c).decoded fs out ≡ read_from make k (suc n) s c fs out
+    → (fs : List R) (out : List ℕ) → section_of (ended_of (Err r) c).decoded fs out ≡ read_from make k (suc n) s c fs out
 unfolding read_from line_of
 read_unread make k n s c r e fs out = rw e
 
@@ -189,3 +191,29 @@ module _ {R : Type 0} {make : Field → R} {k : Reader} {s : List ℕ} {ys : Lis
           is_os = refl;
           is_room = g.is_room;
         }
+
+-- ---- the same by a step as the code has it
+
+module _ {R : Type 0} {make : Field → R} {k : Reader} {s : List ℕ} {ys : List R} {zs : List ℕ} {room : ℕ} {c : Cursor} {fs : List R} {os : List ℕ}
+    (g : Stands make k s ys zs room c fs os) (x : CodeLine) (os' : List ℕ) (e : line_told x ≡ line_of k s room (length os) c)
+    (e' : os' ≡ out_of k s c os (line_told x)) where
+  pub told_ended : (y : Result Unit Refusal) (d : Cursor) → x ≡ code.Ended y d → section_of (decoded_of y d) fs os' ≡ read_all make k s ys zs
+  told_ended y d q =
+      let h : (line_told x).done ≡ true = rw q in
+      rw q at (stands_ended g (line_told x) os' e e' h)
+
+  module _ (f : Field) (d : Cursor) (q : x ≡ code.Found f d) where
+    goes_on : (line_told x).done ≡ false
+    goes_on = rw q
+
+    pub told_within : c.count < length fs
+    told_within = stands_within g (line_told x) os' e e' goes_on
+
+    pub told_moves : (c.at < d.at) × (d.at ≤ length s)
+    told_moves = rw q at (stands_moves g (line_told x) os' e e' goes_on)
+
+    pub told_started : d.started ≡ true
+    told_started = rw q at (stands_started g (line_told x) os' e e' goes_on)
+
+    pub told_next : length os' ≡ length os → Stands make k s ys zs room d (set fs c.count (make f)) os'
+    told_next n = rw q at (stands_next g (line_told x) os' e e' goes_on n)

@@ -1,43 +1,13 @@
 -- Reading a section, RFC 9204 4.5: on a table, and with none. "One record for each decoded field, in a lent list of records (start, name length,
 -- value length), plus the bytes in a second buffer, the size sum, and whether the required count was above 0".
-use Rattle.std.specs.Prelude.{cond, List, [], ◌∷◌, ℕ, zero, suc, length, set}
+use Rattle.std.specs.Prelude.{Ok, cond, List, [], ◌∷◌, ℕ, zero, suc, length, set}
 use Rattle.std.proofs.lemmas.List.Edits.{sets}
-use Rattle.answers.specs.declared.Reply.{Reply}
 use Rattle.section_steps.specs.declared.Cursor.{Cursor}
 use Rattle.section_steps.specs.declared.Decoded.{Decoded}
 use Rattle.section_steps.specs.declared.Field.{Field}
 -- one step
 unfoldable pub use Rattle.section_steps.specs.Section.{start_of, line_with, cursor_at, line_of, bytes_at}
-pub use Rattle.section_steps.specs.Section.{
-  Reader,
-  on_table,
-  stateless,
-  most_of,
-  start,
-  begun,
-  when_long,
-  no_field,
-  ended_of,
-  found_of,
-  is_over,
-  largest_sum,
-  fits,
-  placed_of,
-  field_step,
-  step_by,
-  step_of,
-  line_from,
-  bytes_of,
-  stored_by,
-  out_of,
-  line_in,
-  out_in,
-  begun_by,
-  limit_of,
-  length_of,
-  Ready,
-  LineReady,
-}
+pub use Rattle.section_steps.specs.Section.{Line, line_told, decoded_of, Reader, on_table, stateless, most_of, start, begun, when_long, no_field, ended_of, found_of, is_over, largest_sum, fits, placed_of, field_step, step_by, step_of, line_from, bytes_of, stored_by, out_of, line_in, out_in, limit_of, length_of, Ready, LineReady}
 
 -- ---- the whole section; R is the form of a record, made of what a line gives
 
@@ -51,7 +21,7 @@ section_of d fs out = record { decoded = d; fields = fs; out = out }
 
 -- "a refused section keeps records and bytes of earlier lines, the rest of both buffers untouched"
 unfoldable pub read_from : {R : Type 0} → (Field → R) → Reader → ℕ → List ℕ → Cursor → List R → List ℕ → Section R
-read_from make k zero s c fs out = section_of (ended_of Reply.Done c).decoded fs out
+read_from make k zero s c fs out = section_of (ended_of (Ok tt) c).decoded fs out
 read_from make k (suc n) s c fs out =
     cond (line_of k s (length fs) (length out) c).done
     (section_of (line_of k s (length fs) (length out) c).decoded fs out)

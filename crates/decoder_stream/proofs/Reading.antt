@@ -11,7 +11,8 @@ use Rattle.forms.specs.Forms.{decoder_kind}
 use Rattle.forms.specs.declared.DecoderInstruction.{DecoderInstruction}
 use Rattle.forms.specs.declared.Kind.TheVariants.{Decoder}
 use Rattle.running.specs.Run.{Whole, found}
-use Rattle.stream.specs.Instructions.{OneInteger, integer_at}
+use Rattle.stream.specs.Instructions.{integer_at}
+use Rattle.stream.specs.declared.OneInteger.{OneInteger}
 use Rattle.stream.proofs.Found.{Behind, integer_behind, integer_over}
 use Rattle.decoder_stream.specs.Reports.{Report, report_of, report_at}
 

@@ -1,6 +1,6 @@
 -- The table that reports are applied to, one turn of that, and the promise of a call. Assumes nothing.
 use mathlib.Core.Path.{◌≡◌, refl, sym, ap, ◌∙◌, subst}
-use mathlib.Core.Bool.{Bool, true, false, cond}
+use mathlib.Core.Bool.{Bool, true, false}
 use mathlib.Core.List.{List, []}
 use mathlib.Core.Option.{Option, some, none}
 use Prim.Native.Nat.{ℕ, ◌+◌, ◌-◌, ◌≤◌, ◌<◌}
@@ -8,11 +8,11 @@ use native.Mathlib.Omega.{arith}
 use lib.Dec.{ltb}
 use lib.ListN.{length}
 use borrow.Author.Tests.{ltb-true, ltb-false}
+use Rattle.std.specs.Prelude.{Ok, Err}
 use Rattle.answers.specs.Answer.{done, refused}
 use Rattle.answers.specs.Table.{Done, ok, replied}
 use Rattle.answers.specs.declared.Refusal.{Refusal}
 use Rattle.answers.specs.declared.Refusal.TheVariants.{SectionOpen, BadCall}
-use Rattle.answers.specs.declared.Reply.{Reply}
 use Rattle.dynamic.specs.Calls.{answer, no, release, increment}
 use Rattle.dynamic.specs.Promise.{Keeps}
 use Rattle.dynamic.specs.Record.{sound, view}
@@ -96,10 +96,30 @@ module _ (t : Table) (g : Ready t) where
   called_ready (cancellation stream) = release_ready stream
   called_ready (counting n) = increment_ready n
 
--- both kinds of a release are the same call
-pub released_call : (t : Table) (c : Bool) (stream : ℕ) → release t stream ≡ called t (cond c (cancellation stream) (acknowledgement stream))
-released_call t true stream = refl
-released_call t false stream = refl
+  release_stays : (stream : ℕ) (u : Table) (r : Refusal) → answer u (Err r) ≡ release t stream → u ≡ t
+  release_stays stream u r h = go (releasing t.queue stream).made refl
+    where
+      go : (b : Bool) → (releasing t.queue stream).made ≡ b → u ≡ t
+      go true m =
+          let e =
+          ap (λ (x : Replied). x.reply) (h ∙ sym (release_done t stream g.rules g.closed (releasing t.queue stream) refl m)) in
+          let z : ◌≡◌ {A = ℕ} 0 1 = cc in
+          absurd (omega arith)
+      go false m =
+          ap (λ (x : Replied). x.table) (h ∙ sym (release_none t stream g.rules g.closed (releasing t.queue stream) refl m))
+
+  -- a refused report leaves the table as it was
+  pub refusal_stays : (w : Report) (u : Table) (r : Refusal) → answer u (Err r) ≡ called t w → u ≡ t
+  refusal_stays (acknowledgement stream) u r h = release_stays stream u r h
+  refusal_stays (cancellation stream) u r h = release_stays stream u r h
+  refusal_stays (counting n) u r h = go (ltb largest_count (t.known + n)) refl
+    where
+      go : (b : Bool) → ltb largest_count (t.known + n) ≡ b → u ≡ t
+      go true m = ap (λ (x : Replied). x.table) (h ∙ sym (increment_past t n g.rules g.closed (ltb-true _ _ m)))
+      go false m =
+          let e = ap (λ (x : Replied). x.reply) (h ∙ sym (increment_done t n g.rules g.closed (ltb-false _ _ m))) in
+          let z : ◌≡◌ {A = ℕ} 0 1 = cc in
+          absurd (omega arith)
 
 -- an increment, by the blocked sections that are left
 abbrev pub with_count : ℕ → Waiting → Table → Table
@@ -116,9 +136,9 @@ with_count k w t =
     }
 
 pub increment_left : (t : Table) → Ready t → (n : ℕ) → t.known + n ≤ largest_count → (w : Waiting) → w ≡ let_go t.waiting (t.known + n)
-    → answer (with_count (t.known + n) w t) Reply.Done ≡ increment t n
+    → answer (with_count (t.known + n) w t) (Ok tt) ≡ increment t n
 increment_left t g n h w e =
-    ap (λ (x : Waiting). answer (with_count (t.known + n) x t) Reply.Done) e ∙ increment_done t n g.rules g.closed h
+    ap (λ (x : Waiting). answer (with_count (t.known + n) x t) (Ok tt)) e ∙ increment_done t n g.rules g.closed h
 
 -- ---- one turn
 
@@ -151,7 +171,7 @@ module _ {s : List ℕ} {t₀ t : Table} {at : ℕ} (g : Going s t₀ t at) wher
       ends_refused r w =
           sym (run_refused report_at takes s at t g.fuel h some_fuel i e r (ap (λ (x : Replied). replied x.reply) (sym w))) ∙ g.rest
 
-      pub goes_on : (u : Table) → answer u Reply.Done ≡ called t i.instruction → Going s t₀ u i.next
+      pub goes_on : (u : Table) → answer u (Ok tt) ≡ called t i.instruction → Going s t₀ u i.next
       goes_on u w =
           let b = report_bounded s at i e in
           let same : u ≡ (called t i.instruction).table = ap (λ (x : Replied). x.table) w in
@@ -182,7 +202,7 @@ unfolding receiving
 receiving_reports t s g = rw (g.rules, g.closed)
 
 module _ (t : Table) (s : List ℕ) (r : Reported) where
-  pub receives_broken : sound t ≡ false → r ≡ record { table = t; consumed = 0; reply = Reply.Refused BadCall } → Receives t s r
+  pub receives_broken : sound t ≡ false → r ≡ record { table = t; consumed = 0; reply = Err BadCall } → Receives t s r
   unfolding receiving
   receives_broken h e =
       record {
@@ -191,7 +211,7 @@ module _ (t : Table) (s : List ℕ) (r : Reported) where
         kept = λ k. let z : ◌≡◌ {A = ℕ} 0 1 = cc in absurd (omega arith);
       }
 
-  pub receives_open : sound t ≡ true → t.active ≡ true → r ≡ record { table = t; consumed = 0; reply = Reply.Refused SectionOpen } → Receives t s r
+  pub receives_open : sound t ≡ true → t.active ≡ true → r ≡ record { table = t; consumed = 0; reply = Err SectionOpen } → Receives t s r
   unfolding receiving
   receives_open h on e =
       record {

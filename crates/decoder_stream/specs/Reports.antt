@@ -1,5 +1,5 @@
 -- A call on the decoder stream, RFC 9204 4.4: "a call on the decoder stream applies its reports in order and writes nothing".
-use Rattle.std.specs.Prelude.{◌≡◌, true, false, cond, List, ℕ, length, get_or}
+use Rattle.std.specs.Prelude.{Result, Ok, Err, Option as Maybe, Some, None, ◌≡◌, true, false, cond, List, ℕ, length, get_or}
 use Rattle.std.proofs.Math.Option.{Option, some, none}
 use Rattle.answers.specs.Answer.{Answer, done, refused}
 use Rattle.answers.specs.Table.{Done, replied}
@@ -15,10 +15,13 @@ use Rattle.forms.specs.declared.Kind.TheVariants.{Decoder}
 use Rattle.model.specs.Bounds.{queue_places, blocked_values}
 use Rattle.model.specs.Report as report
 use Rattle.model.specs.Table as model
+use Rattle.running.specs.declared.Whole.{Whole as CodeWhole}
+use Rattle.answers.specs.declared.Refusal.{Refusal}
 use Rattle.running.specs.Run.{Whole, Took, Ended, ends, run_all, unless_open, found}
-use Rattle.stream.specs.Instructions.{OneInteger, integer_at}
+use Rattle.stream.specs.Instructions.{integer_at}
+use Rattle.stream.specs.declared.OneInteger.{OneInteger}
 use Rattle.decoder_stream.specs.declared.Reported.{Reported}
-use Rattle.decoder_stream.specs.declared.ReportRead.{ReportRead}
+use Rattle.decoder_stream.specs.declared.Report.{Report as CodeReport}
 
 -- a report of the peer
 pub data Report : Type 0 where
@@ -38,12 +41,16 @@ report_at s at =
     found (λ (i : OneInteger). record { instruction = report_of (decoder_kind (get_or s at 0)) i.value; next = i.next })
     (integer_at s at (Decoder (decoder_kind (get_or s at 0))))
 
-abbrev pub report_read : ReportRead → Answer (Option (Whole Report))
-report_read (ReportRead.Release c stream e) =
-    done (some (record { instruction = cond c (cancellation stream) (acknowledgement stream); next = e }))
-report_read (ReportRead.Increment n e) = done (some (record { instruction = increment n; next = e }))
-report_read ReportRead.Cut = done none
-report_read (ReportRead.Refused r) = refused r
+-- a report as the code has it
+abbrev pub report_in : CodeReport → Report
+report_in (CodeReport.Acknowledgement stream) = acknowledgement stream
+report_in (CodeReport.Cancellation stream) = cancellation stream
+report_in (CodeReport.Increment n) = increment n
+
+abbrev pub report_read : Result (Maybe (CodeWhole CodeReport)) Refusal → Answer (Option (Whole Report))
+report_read (Ok (Some w)) = done (some (record { instruction = report_in w.instruction; next = w.next }))
+report_read (Ok None) = done none
+report_read (Err r) = refused r
 
 -- ---- on the record: each report is the call of that name
 

@@ -20,8 +20,7 @@ use Rattle.entries.specs.declared.Room.{Room}
 use Rattle.entries.proofs.Between.{between_drop}
 use Rattle.field.specs.Field.{Field, overhead}
 use Rattle.field_lines.specs.Line.{line_on}
-use Rattle.ring.specs.Ring.{live, fields_of, field_from, room_in, no_room, room_for, pushable, push_field, pushed, pushing, cut_by, cutting}
-use Rattle.ring.specs.declared.Cut.{Cut}
+use Rattle.ring.specs.Ring.{live, fields_of, field_from, room_in, no_room, room_for, pushable, push_field, pushed, pushing, cut_by, cutting, Cut}
 use Rattle.ring.specs.declared.Push.TheVariants.{BadCall}
 use Rattle.ring.specs.declared.Pushed.{Pushed}
 use Rattle.ring.specs.declared.Ring.{Ring}

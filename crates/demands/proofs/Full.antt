@@ -9,7 +9,7 @@ use lib.ListN.{length, get_or, take, length-set, length-replicate}
 use Rattle.answers.specs.declared.Refusal.{Refusal}
 use Rattle.answers.specs.declared.Lookup.TheVariants.{Static}
 use Rattle.dynamic.specs.Calls as calls
-use Rattle.dynamic.specs.Record.{sound, usable, lowest_used}
+use Rattle.dynamic.specs.Record.{Shape, sound, usable, lowest_used}
 use Rattle.dynamic.specs.declared.Inserting.{Inserting}
 use Rattle.dynamic.specs.declared.Looked.{Looked}
 use Rattle.dynamic.specs.declared.Replied.{Replied}
@@ -24,13 +24,10 @@ use Rattle.ring.specs.declared.Ring.{Ring}
 use Rattle.ring.specs.declared.Source.TheVariants.{Given}
 use Rattle.ring.proofs.Keeping.{Arrays}
 use Rattle.static_table.specs.Static.{lowest_name}
-use Rattle.tracking.specs.Queue.{pushing as queueing, releasing}
-use Rattle.tracking.specs.Uses.{no_held, noting, place_of}
-use Rattle.blocked.specs.Waiting.{blocking}
-use Rattle.blocked.specs.declared.Counted.{Counted}
+use Rattle.tracking.specs.Queue.{pushing as queueing, releasing, Queued}
+use Rattle.tracking.specs.Uses.{no_held, noting, place_of, Noted}
+use Rattle.blocked.specs.Waiting.{blocking, Counted}
 use Rattle.tracking.specs.declared.Held.{Held as HeldUse}
-use Rattle.tracking.specs.declared.Noted.{Noted}
-use Rattle.tracking.specs.declared.Queued.{Queued}
 use Rattle.tracking.specs.declared.Section.{Section}
 use Rattle.blocked.proofs.Blocked.{blocking_values, let_go_length}
 use Rattle.tracking.proofs.Sections.{released_places, pushed_places}
@@ -42,6 +39,17 @@ pub record Full (t : Table) : Type 0 where
   pub queue : length t.queue.places ≡ queue_places
   pub waiting : length t.waiting.values ≡ blocked_values
   pub uses : length t.section.uses ≡ section_entries
+
+pub shape_of : {t : Table} → Full t → Shape t
+shape_of f =
+    record {
+      uses = f.uses;
+      starts = f.ring.starts;
+      names = f.ring.names;
+      values = f.ring.values;
+      places = f.queue;
+      blocked = f.waiting;
+    }
 
 pub fresh_full : Full calls.fresh_table
 unfolding calls.fresh_table

@@ -18,10 +18,8 @@ use Rattle.instructions.specs.Instruction.{instruction_at}
 use Rattle.ring.proofs.Keeping.{Arrays}
 use Rattle.running.specs.Run.{ends, run_all}
 use Rattle.running.proofs.Run.{run_good}
-use Rattle.demands.specs.Calls.{Call, set_capacity, set_blocked_maximum, put, find, insert, begin, commit, abandon}
-use Rattle.demands.specs.Calls.{acknowledge, cancel, increment, encoder_stream, decoder_stream, decode_header, read_on, next_on, lend, calling}
-use Rattle.demands.proofs.Full.{Full, capacity_full, most_full, put_full, begin_full, abandon_full, commit_full, release_full}
-use Rattle.demands.proofs.Full.{increment_full, find_full, insert_full}
+use Rattle.demands.specs.Calls.{Call, set_capacity, set_blocked_maximum, put, find, insert, begin, commit, abandon, acknowledge, cancel, increment, encoder_stream, decoder_stream, decode_header, read_on, next_on, lend, calling}
+use Rattle.demands.proofs.Full.{Full, capacity_full, most_full, put_full, begin_full, abandon_full, commit_full, release_full, increment_full, find_full, insert_full}
 
 -- a table that reports are applied to, with its arrays
 record Reports (t : Table) : Type 0 where

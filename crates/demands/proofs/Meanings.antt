@@ -4,280 +4,187 @@ use mathlib.Core.Path.{◌≡◌, refl, sym, ap, ◌∙◌}
 use mathlib.Core.Bool.{true, false}
 use mathlib.Core.Option.{Option, some, none}
 use Prim.Native.Nat.{ℕ}
-use Rattle.answers.specs.Answer.{Answer, done, refused}
+use Rattle.std.specs.Prelude.{Result, Ok, Err, Some, None, Option as Maybe}
+use Rattle.answers.specs.Answer.{answered, answered_or_cut, Answer, done, refused}
 use Rattle.answers.specs.Table as answers
-use Rattle.answers.specs.Write.{written}
 use Rattle.answers.specs.declared.Refusal.{Refusal}
-use Rattle.answers.specs.declared.Reply.{Reply}
-use Rattle.answers.specs.declared.Written.{Written}
 use Rattle.block.specs.Lines as block
-use Rattle.block.specs.declared.LineRead.{LineRead}
+use Rattle.block.specs.declared.FieldLine.{FieldLine}
 use Rattle.decoder_stream.specs.Reports as reports
-use Rattle.decoder_stream.specs.declared.ReportRead.{ReportRead}
+use Rattle.decoder_stream.specs.declared.Report.{Report}
 use Rattle.dynamic.specs.Calls.{tested}
-use Rattle.call_parts.specs.declared.CapacityTest.{CapacityTest}
 use Rattle.entries.specs.Latest.{latest}
-use Rattle.entries.specs.declared.Latest.{Latest}
-use Rattle.header_prefix.specs.Prefix as prefix
-use Rattle.header_prefix.specs.declared.PrefixRead.{PrefixRead}
-use Rattle.prefix_int.specs.Integer as integer
-use Rattle.prefix_int.specs.declared.IntRead.{IntRead}
-use Rattle.int_writing.specs.declared.IntSize.{IntSize}
-use Rattle.prefix_string.specs.Text as text
-use Rattle.prefix_string.specs.declared.TextRead.{TextRead}
+use Rattle.header_prefix.specs.declared.Prefix.{Prefix}
+use Rattle.prefix_int.specs.declared.Integer.{Integer}
+use Rattle.prefix_string.specs.declared.Text.{Text}
 use Rattle.running.specs.Run.{Whole}
-use Rattle.section_steps.specs.Section as section
-use Rattle.section_steps.specs.declared.Begun.{Begun}
+use Rattle.running.specs.declared.Whole.{Whole as CodeWhole}
 use Rattle.section_steps.specs.declared.Cursor.{Cursor}
-use Rattle.shapes.specs.Shapes as shapes
-use Rattle.shapes.specs.declared.IntTextRead.{IntTextRead}
-use Rattle.shapes.specs.declared.TextsRead.{TextsRead}
+use Rattle.shapes.specs.declared.IntText.{IntText}
+use Rattle.shapes.specs.declared.TwoTexts.{TwoTexts}
 use Rattle.static_table.specs.Static as static
-use Rattle.static_table.specs.declared.StaticFound.{StaticFound}
-use Rattle.static_table.specs.declared.StaticGot.{StaticGot}
-use Rattle.stream.specs.Instructions as stream
-use Rattle.stream.specs.declared.IntegerRead.{IntegerRead}
-use Rattle.stream.specs.declared.LiteralRead.{LiteralRead}
-use Rattle.stream.specs.declared.NameRefRead.{NameRefRead}
-use Rattle.vas.specs.Vas as vas
-use Rattle.vas.specs.declared.Located.{Located}
+use Rattle.static_table.specs.declared.Place.{Place}
+use Rattle.stream.specs.declared.OneInteger.{OneInteger}
+use Rattle.stream.specs.declared.NameRef.{NameRef}
+use Rattle.stream.specs.declared.Literal.{Literal}
 
 settled : {R M : Type 0} (meaning : R → M) (back : M → R) → ((r : R) → back (meaning r) ≡ r)
     → (r r' : R) {x : M} → meaning r ≡ x → meaning r' ≡ x → r ≡ r'
 settled meaning back way r r' e f = sym (way r) ∙ ap back (e ∙ sym f) ∙ way r'
 
+pub one_answer : {A : Type 0} (r r' : Result A Refusal) {x : Answer A} → answered r ≡ x → answered r' ≡ x → r ≡ r'
+one_answer {A} = settled answered back way
+  where
+    back : Answer A → Result A Refusal
+    back (done e) = Ok e
+    back (refused w) = Err w
+
+    way : (r : Result A Refusal) → back (answered r) ≡ r
+    way (Ok e) = refl
+    way (Err w) = refl
+
+pub one_or_cut : {A : Type 0} (r r' : Result (Maybe A) Refusal) {x : Answer (Option A)} → answered_or_cut r ≡ x → answered_or_cut r' ≡ x → r ≡ r'
+one_or_cut {A} = settled answered_or_cut back way
+  where
+    back : Answer (Option A) → Result (Maybe A) Refusal
+    back (done (some e)) = Ok (Some e)
+    back (done none) = Ok None
+    back (refused w) = Err w
+
+    way : (r : Result (Maybe A) Refusal) → back (answered_or_cut r) ≡ r
+    way (Ok (Some e)) = refl
+    way (Ok None) = refl
+    way (Err w) = refl
+
 -- ---- answers of the table's calls and of the writers
 
-pub one_reply : (r r' : Reply) {x : Answer answers.Done} → answers.replied r ≡ x → answers.replied r' ≡ x → r ≡ r'
+pub one_reply : (r r' : Result Unit Refusal) {x : Answer answers.Done} → answers.replied r ≡ x → answers.replied r' ≡ x → r ≡ r'
 one_reply = settled answers.replied back way
   where
-    back : Answer answers.Done → Reply
-    back (done d) = Reply.Done
-    back (refused w) = Reply.Refused w
+    back : Answer answers.Done → Result Unit Refusal
+    back (done d) = (Ok tt)
+    back (refused w) = Err w
 
-    way : (r : Reply) → back (answers.replied r) ≡ r
-    way Reply.Done = refl
-    way (Reply.Refused w) = refl
+    way : (r : Result Unit Refusal) → back (answers.replied r) ≡ r
+    way (Ok tt) = refl
+    way (Err w) = refl
 
-pub one_written : (r r' : Written) {x : Answer ℕ} → written r ≡ x → written r' ≡ x → r ≡ r'
-one_written = settled written back way
-  where
-    back : Answer ℕ → Written
-    back (done e) = Written.Next e
-    back (refused w) = Written.Refused w
+pub one_written : (r r' : Result ℕ Refusal) {x : Answer ℕ} → answered r ≡ x → answered r' ≡ x → r ≡ r'
+one_written = one_answer
 
-    way : (r : Written) → back (written r) ≡ r
-    way (Written.Next e) = refl
-    way (Written.Refused w) = refl
-
-pub one_capacity_test : (r r' : CapacityTest) {x : Option Refusal} → tested r ≡ x → tested r' ≡ x → r ≡ r'
+pub one_capacity_test : (r r' : Result Unit Refusal) {x : Option Refusal} → tested r ≡ x → tested r' ≡ x → r ≡ r'
 one_capacity_test = settled tested back way
   where
-    back : Option Refusal → CapacityTest
-    back none = CapacityTest.Within
-    back (some w) = CapacityTest.Refused w
+    back : Option Refusal → Result Unit Refusal
+    back none = (Ok tt)
+    back (some w) = Err w
 
-    way : (r : CapacityTest) → back (tested r) ≡ r
-    way CapacityTest.Within = refl
-    way (CapacityTest.Refused w) = refl
+    way : (r : Result Unit Refusal) → back (tested r) ≡ r
+    way (Ok tt) = refl
+    way (Err w) = refl
 
 -- ---- integers and strings
 
-pub one_int : (r r' : IntRead) {x : Answer integer.Integer} → integer.int_read r ≡ x → integer.int_read r' ≡ x → r ≡ r'
-one_int = settled integer.int_read back way
-  where
-    back : Answer integer.Integer → IntRead
-    back (done i) = IntRead.Int i.flags i.value i.next
-    back (refused w) = IntRead.Refused w
+pub one_int : (r r' : Result Integer Refusal) {x : Answer Integer} → answered r ≡ x → answered r' ≡ x → r ≡ r'
+one_int = one_answer
 
-    way : (r : IntRead) → back (integer.int_read r) ≡ r
-    way (IntRead.Int f v e) = refl
-    way (IntRead.Refused w) = refl
+pub one_size : (r r' : Result ℕ Refusal) {x : Answer ℕ} → answered r ≡ x → answered r' ≡ x → r ≡ r'
+one_size = one_answer
 
-pub one_size : (r r' : IntSize) {x : Answer ℕ} → integer.int_size r ≡ x → integer.int_size r' ≡ x → r ≡ r'
-one_size = settled integer.int_size back way
-  where
-    back : Answer ℕ → IntSize
-    back (done n) = IntSize.Bytes n
-    back (refused w) = IntSize.Refused w
+pub one_text : (r r' : Result Text Refusal) {x : Answer Text} → answered r ≡ x → answered r' ≡ x → r ≡ r'
+one_text = one_answer
 
-    way : (r : IntSize) → back (integer.int_size r) ≡ r
-    way (IntSize.Bytes n) = refl
-    way (IntSize.Refused w) = refl
+pub one_int_text : (r r' : Result IntText Refusal) {x : Answer IntText} → answered r ≡ x → answered r' ≡ x → r ≡ r'
+one_int_text = one_answer
 
-pub one_text : (r r' : TextRead) {x : Answer text.Text} → text.text_read r ≡ x → text.text_read r' ≡ x → r ≡ r'
-one_text = settled text.text_read back way
-  where
-    back : Answer text.Text → TextRead
-    back (done t) = TextRead.Text t.flags t.start t.len t.next
-    back (refused w) = TextRead.Refused w
-
-    way : (r : TextRead) → back (text.text_read r) ≡ r
-    way (TextRead.Text f s n e) = refl
-    way (TextRead.Refused w) = refl
-
-pub one_int_text : (r r' : IntTextRead) {x : Answer shapes.IntText} → shapes.int_text_read r ≡ x → shapes.int_text_read r' ≡ x → r ≡ r'
-one_int_text = settled shapes.int_text_read back way
-  where
-    back : Answer shapes.IntText → IntTextRead
-    back (done t) = IntTextRead.IntText t.flags t.index t.start t.len t.next
-    back (refused w) = IntTextRead.Refused w
-
-    way : (r : IntTextRead) → back (shapes.int_text_read r) ≡ r
-    way (IntTextRead.IntText f i s n e) = refl
-    way (IntTextRead.Refused w) = refl
-
-pub one_texts : (r r' : TextsRead) {x : Answer shapes.TwoTexts} → shapes.texts_read r ≡ x → shapes.texts_read r' ≡ x → r ≡ r'
-one_texts = settled shapes.texts_read back way
-  where
-    back : Answer shapes.TwoTexts → TextsRead
-    back (done t) = TextsRead.Texts t.flags t.name t.name_len t.value t.value_len t.next
-    back (refused w) = TextsRead.Refused w
-
-    way : (r : TextsRead) → back (shapes.texts_read r) ≡ r
-    way (TextsRead.Texts f a m b n e) = refl
-    way (TextsRead.Refused w) = refl
+pub one_texts : (r r' : Result TwoTexts Refusal) {x : Answer TwoTexts} → answered r ≡ x → answered r' ≡ x → r ≡ r'
+one_texts = one_answer
 
 -- ---- the static table, and indexes
 
-pub one_got : (r r' : StaticGot) {x : Answer static.Place} → static.got r ≡ x → static.got r' ≡ x → r ≡ r'
-one_got = settled static.got back way
-  where
-    back : Answer static.Place → StaticGot
-    back (done p) = StaticGot.Entry p.start p.name p.value
-    back (refused w) = StaticGot.Refused w
+pub one_got : (r r' : Result Place Refusal) {x : Answer Place} → answered r ≡ x → answered r' ≡ x → r ≡ r'
+one_got = one_answer
 
-    way : (r : StaticGot) → back (static.got r) ≡ r
-    way (StaticGot.Entry s n v) = refl
-    way (StaticGot.Refused w) = refl
-
-pub one_found : (r r' : StaticFound) {x : Option ℕ} → static.found r ≡ x → static.found r' ≡ x → r ≡ r'
+pub one_found : (r r' : Maybe ℕ) {x : Option ℕ} → static.found r ≡ x → static.found r' ≡ x → r ≡ r'
 one_found = settled static.found back way
   where
-    back : Option ℕ → StaticFound
-    back (some i) = StaticFound.At i
-    back none = StaticFound.Nothing
+    back : Option ℕ → Maybe ℕ
+    back (some i) = Some i
+    back none = None
 
-    way : (r : StaticFound) → back (static.found r) ≡ r
-    way (StaticFound.At i) = refl
-    way StaticFound.Nothing = refl
+    way : (r : Maybe ℕ) → back (static.found r) ≡ r
+    way (Some i) = refl
+    way None = refl
 
-pub one_latest : (r r' : Latest) {x : Option ℕ} → latest r ≡ x → latest r' ≡ x → r ≡ r'
+pub one_latest : (r r' : Maybe ℕ) {x : Option ℕ} → latest r ≡ x → latest r' ≡ x → r ≡ r'
 one_latest = settled latest back way
   where
-    back : Option ℕ → Latest
-    back (some i) = Latest.At i
-    back none = Latest.Nothing
+    back : Option ℕ → Maybe ℕ
+    back (some i) = Some i
+    back none = None
 
-    way : (r : Latest) → back (latest r) ≡ r
-    way (Latest.At i) = refl
-    way Latest.Nothing = refl
+    way : (r : Maybe ℕ) → back (latest r) ≡ r
+    way (Some i) = refl
+    way None = refl
 
-pub one_located : (r r' : Located) {x : Answer ℕ} → vas.located r ≡ x → vas.located r' ≡ x → r ≡ r'
-one_located = settled vas.located back way
-  where
-    back : Answer ℕ → Located
-    back (done p) = Located.At p
-    back (refused w) = Located.Refused w
-
-    way : (r : Located) → back (vas.located r) ≡ r
-    way (Located.At p) = refl
-    way (Located.Refused w) = refl
+pub one_located : (r r' : Result ℕ Refusal) {x : Answer ℕ} → answered r ≡ x → answered r' ≡ x → r ≡ r'
+one_located = one_answer
 
 -- ---- single instructions, lines and prefixes
 
-pub one_begun : (r r' : Begun) {x : Answer Cursor} → section.begun_by r ≡ x → section.begun_by r' ≡ x → r ≡ r'
-one_begun = settled section.begun_by back way
-  where
-    back : Answer Cursor → Begun
-    back (done c) = Begun.At c
-    back (refused w) = Begun.Refused w
+pub one_begun : (r r' : Result Cursor Refusal) {x : Answer Cursor} → answered r ≡ x → answered r' ≡ x → r ≡ r'
+one_begun = one_answer
 
-    way : (r : Begun) → back (section.begun_by r) ≡ r
-    way (Begun.At c) = refl
-    way (Begun.Refused w) = refl
+pub one_integer : (r r' : Result (Maybe OneInteger) Refusal) {x : Answer (Option OneInteger)}
+    → answered_or_cut r ≡ x → answered_or_cut r' ≡ x → r ≡ r'
+one_integer = one_or_cut
 
-pub one_integer : (r r' : IntegerRead) {x : Answer (Option stream.OneInteger)} → stream.integer_read r ≡ x → stream.integer_read r' ≡ x → r ≡ r'
-one_integer = settled stream.integer_read back way
-  where
-    back : Answer (Option stream.OneInteger) → IntegerRead
-    back (done (some i)) = IntegerRead.Integer i.value i.next
-    back (done none) = IntegerRead.Cut
-    back (refused w) = IntegerRead.Refused w
+pub one_name_ref : (r r' : Result (Maybe NameRef) Refusal) {x : Answer (Option NameRef)}
+    → answered_or_cut r ≡ x → answered_or_cut r' ≡ x → r ≡ r'
+one_name_ref = one_or_cut
 
-    way : (r : IntegerRead) → back (stream.integer_read r) ≡ r
-    way (IntegerRead.Integer v e) = refl
-    way IntegerRead.Cut = refl
-    way (IntegerRead.Refused w) = refl
+pub one_literal : (r r' : Result (Maybe Literal) Refusal) {x : Answer (Option Literal)}
+    → answered_or_cut r ≡ x → answered_or_cut r' ≡ x → r ≡ r'
+one_literal = one_or_cut
 
-pub one_name_ref : (r r' : NameRefRead) {x : Answer (Option stream.NameRef)} → stream.name_ref_read r ≡ x → stream.name_ref_read r' ≡ x → r ≡ r'
-one_name_ref = settled stream.name_ref_read back way
-  where
-    back : Answer (Option stream.NameRef) → NameRefRead
-    back (done (some i)) = NameRefRead.NameRef i.is_static i.index i.value i.value_len i.next
-    back (done none) = NameRefRead.Cut
-    back (refused w) = NameRefRead.Refused w
-
-    way : (r : NameRefRead) → back (stream.name_ref_read r) ≡ r
-    way (NameRefRead.NameRef t i v n e) = refl
-    way NameRefRead.Cut = refl
-    way (NameRefRead.Refused w) = refl
-
-pub one_literal : (r r' : LiteralRead) {x : Answer (Option stream.Literal)} → stream.literal_read r ≡ x → stream.literal_read r' ≡ x → r ≡ r'
-one_literal = settled stream.literal_read back way
-  where
-    back : Answer (Option stream.Literal) → LiteralRead
-    back (done (some i)) = LiteralRead.Literal i.name i.name_len i.value i.value_len i.next
-    back (done none) = LiteralRead.Cut
-    back (refused w) = LiteralRead.Refused w
-
-    way : (r : LiteralRead) → back (stream.literal_read r) ≡ r
-    way (LiteralRead.Literal a m b n e) = refl
-    way LiteralRead.Cut = refl
-    way (LiteralRead.Refused w) = refl
-
-pub one_line : (r r' : LineRead) {x : Answer block.FieldLine} → block.line_read r ≡ x → block.line_read r' ≡ x → r ≡ r'
+pub one_line : (r r' : Result FieldLine Refusal) {x : Answer block.FieldLine} → block.line_read r ≡ x → block.line_read r' ≡ x → r ≡ r'
 one_line = settled block.line_read back way
   where
-    back : Answer block.FieldLine → LineRead
-    back (done (block.indexed r e)) = LineRead.Indexed r e
-    back (done (block.named r v n e)) = LineRead.Named r v n e
-    back (done (block.literal a m b n e)) = LineRead.Literal a m b n e
-    back (refused w) = LineRead.Refused w
+    back : Answer block.FieldLine → Result FieldLine Refusal
+    back (done (block.indexed r e)) = Ok (FieldLine.Indexed r e)
+    back (done (block.named r v n e)) = Ok (FieldLine.Named r v n e)
+    back (done (block.literal a m b n e)) = Ok (FieldLine.Literal a m b n e)
+    back (refused w) = Err w
 
-    way : (r : LineRead) → back (block.line_read r) ≡ r
-    way (LineRead.Indexed r e) = refl
-    way (LineRead.Named r v n e) = refl
-    way (LineRead.Literal a m b n e) = refl
-    way (LineRead.Refused w) = refl
+    way : (r : Result FieldLine Refusal) → back (block.line_read r) ≡ r
+    way (Ok (FieldLine.Indexed r e)) = refl
+    way (Ok (FieldLine.Named r v n e)) = refl
+    way (Ok (FieldLine.Literal a m b n e)) = refl
+    way (Err w) = refl
 
-pub one_prefix : (r r' : PrefixRead) {x : Answer prefix.Prefix} → prefix.prefix_read r ≡ x → prefix.prefix_read r' ≡ x → r ≡ r'
-one_prefix = settled prefix.prefix_read back way
-  where
-    back : Answer prefix.Prefix → PrefixRead
-    back (done p) = PrefixRead.Prefix p.required p.base p.next
-    back (refused w) = PrefixRead.Refused w
+pub one_prefix : (r r' : Result Prefix Refusal) {x : Answer Prefix} → answered r ≡ x → answered r' ≡ x → r ≡ r'
+one_prefix = one_answer
 
-    way : (r : PrefixRead) → back (prefix.prefix_read r) ≡ r
-    way (PrefixRead.Prefix n b e) = refl
-    way (PrefixRead.Refused w) = refl
-
-pub one_report : (r r' : ReportRead) {x : Answer (Option (Whole reports.Report))} → reports.report_read r ≡ x → reports.report_read r' ≡ x → r ≡ r'
+pub one_report : (r r' : Result (Maybe (CodeWhole Report)) Refusal) {x : Answer (Option (Whole reports.Report))}
+    → reports.report_read r ≡ x → reports.report_read r' ≡ x → r ≡ r'
 one_report = settled reports.report_read back way
   where
-    whole : reports.Report → ℕ → ReportRead
-    whole (reports.acknowledgement s) e = ReportRead.Release false s e
-    whole (reports.cancellation s) e = ReportRead.Release true s e
-    whole (reports.increment n) e = ReportRead.Increment n e
+    whole : reports.Report → Report
+    whole (reports.acknowledgement s) = Report.Acknowledgement s
+    whole (reports.cancellation s) = Report.Cancellation s
+    whole (reports.increment n) = Report.Increment n
 
-    back : Answer (Option (Whole reports.Report)) → ReportRead
-    back (done (some i)) = whole i.instruction i.next
-    back (done none) = ReportRead.Cut
-    back (refused w) = ReportRead.Refused w
+    back : Answer (Option (Whole reports.Report)) → Result (Maybe (CodeWhole Report)) Refusal
+    back (done (some i)) = Ok (Some (record { instruction = whole i.instruction; next = i.next }))
+    back (done none) = Ok None
+    back (refused w) = Err w
 
-    way : (r : ReportRead) → back (reports.report_read r) ≡ r
-    way (ReportRead.Release true s e) = refl
-    way (ReportRead.Release false s e) = refl
-    way (ReportRead.Increment n e) = refl
-    way ReportRead.Cut = refl
-    way (ReportRead.Refused w) = refl
+    same : (r : Report) → whole (reports.report_in r) ≡ r
+    same (Report.Acknowledgement s) = refl
+    same (Report.Cancellation s) = refl
+    same (Report.Increment n) = refl
+
+    way : (r : Result (Maybe (CodeWhole Report)) Refusal) → back (reports.report_read r) ≡ r
+    way (Ok (Some w)) = ap (λ (i : Report). Ok (Some (record { instruction = i; next = w.next }))) (same w.instruction)
+    way (Ok None) = refl
+    way (Err w) = refl

@@ -3,12 +3,13 @@ use mathlib.Core.Path.{◌≡◌, ap, ◌∙◌}
 use mathlib.Core.List.{List, ◌++◌}
 use Prim.Native.Nat.{ℕ}
 use lib.ListN.{length, drop}
-use Rattle.answers.specs.Table.{replied, inserted}
+use Rattle.answers.specs.Answer.{answered}
+use Rattle.answers.specs.Table.{replied}
 use Rattle.decoder.specs.Section as section
 use Rattle.section_steps.specs.declared.Cursor.{Cursor}
 use Rattle.section_steps.specs.declared.Decoded.{Decoded}
 use Rattle.section_steps.specs.declared.Field.{Field}
-use Rattle.section_steps.specs.declared.Line.{Line}
+use Rattle.section_steps.specs.Section.{Line}
 use Rattle.decoder_stream.specs.Reports as reports
 use Rattle.decoder_stream.specs.declared.Reported.{Reported}
 use Rattle.dynamic.specs.Calls as calls
@@ -22,10 +23,7 @@ use Rattle.encoder_stream.specs.declared.Received.{Received}
 use Rattle.model.specs.Drop as model-table
 use Rattle.model.specs.Report as model-report
 use Rattle.model.specs.Section as model-section
-use Rattle.demands.specs.Calls.{set_capacity, set_blocked_maximum, begin, commit, abandon, acknowledge, cancel, increment}
-use Rattle.demands.specs.Calls.{holds, put, find, insert, encoder_stream, decoder_stream, decode_header, read_on, next_on}
-use Rattle.demands.specs.Calls.{Outcome, plain, insertion, reported, received, decoded, decoded_numbers, stepped}
-use Rattle.demands.specs.Calls.{replying, putting, looking, inserting, reporting, reading, calling}
+use Rattle.demands.specs.Calls.{set_capacity, set_blocked_maximum, begin, commit, abandon, acknowledge, cancel, increment, holds, put, find, insert, encoder_stream, decoder_stream, decode_header, read_on, next_on, Outcome, plain, insertion, reported, received, decoded, decoded_numbers, stepped, replying, putting, looking, inserting, reporting, reading, calling}
 
 -- t, a: the record and the arena before; b: the arena after
 module _ (t : Table) (a : List ℕ) where
@@ -64,9 +62,9 @@ module _ (t : Table) (a : List ℕ) where
     meets_find r w = ap (looking a) w.next
 
     pub meets_insert : (b : List ℕ) (r : Inserting) → Inserts t a b n v r
-        → ◌≡◌ {A = Outcome} (record { state = holds r.table b; answer = insertion (inserted r.inserted) }) (calling t a (insert n v))
+        → ◌≡◌ {A = Outcome} (record { state = holds r.table b; answer = insertion (answered r.inserted) }) (calling t a (insert n v))
     meets_insert b r w =
-        ap (λ (x : List ℕ). record { state = holds r.table x; answer = insertion (inserted r.inserted) }) w.bytes
+        ap (λ (x : List ℕ). record { state = holds r.table x; answer = insertion (answered r.inserted) }) w.bytes
         ∙ ap (inserting t a n v) w.next
 
   -- o, p: the buffer for the increment before and after

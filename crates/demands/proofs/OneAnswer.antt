@@ -2,7 +2,7 @@
 -- counts and every output byte." Each law takes two results of one input, both as promised, and says that they are equal. Assumes nothing.
 --
 -- In the laws r, r' are the two results; b, b' the two arenas after the call; m, m' and p, p' the two buffers after it. The one exception
--- that document 01 allows, arena bytes outside live strings, is none here: the promises settle the whole arena.
+-- that the specification allows, arena bytes outside live strings, is none here: the promises settle the whole arena.
 --
 -- | call | promise | law |
 -- |---|---|---|
@@ -12,17 +12,17 @@
 -- | on_decoder_recv | Receives (decoder_stream) | one_decoder_call |
 -- | decode_header, decode_stateless, read_on, read_stateless (decoder) | section_of r fields out ≡ read_all .. | one_section |
 -- | decode_header_listed, decode_stateless_listed (listed) | Lists | one_listed (OneListed) |
--- | next_on, next_stateless, line_on (section_steps) | r ≡ line_of .. or line_in .., out ≡ out_of .. or out_in .. | one_step |
--- | begin_on (section_steps) | begun_by r ≡ .. | one_begun (Meanings) |
+-- | next_on, next_stateless, line_on (section_steps) | line_told r ≡ line_of .. or line_in .., out ≡ out_of .. or out_in .. | one_step |
+-- | begin_on (section_steps) | answered r ≡ .. | one_begun (Meanings) |
 -- | every writer: prefix_int, prefix_string, shapes, stream, block; byte_writing::write, static_table::copy, arena::copy | Writes | one_write |
 -- | Ring: push | Pushes | one_push |
--- | prefix_int: read, size; stream_parts: kind_int; prefix_string: read, size | int_read, text_read, int_size r ≡ .. | one_int, one_text, one_size (Meanings) |
--- | shapes: text_after, texts | int_text_read, texts_read r ≡ .. | one_int_text, one_texts (Meanings) |
--- | static_table: get, find, find_name | got, found r ≡ .. | one_got, one_found (Meanings) |
--- | VirtualAddressSpace: relative, relative_base, post_base, index | located r ≡ .. | one_located (Meanings) |
--- | stream: read_integer, read_name_ref, read_literal | integer_read, name_ref_read, literal_read r ≡ .. | one_integer, one_name_ref, one_literal (Meanings) |
+-- | prefix_int: read, size; stream_parts: kind_int; prefix_string: read, size | answered r ≡ .. | one_int, one_text, one_size (Meanings) |
+-- | shapes: text_after, texts | answered r ≡ .. | one_int_text, one_texts (Meanings) |
+-- | static_table: get, find, find_name | answered, found r ≡ .. | one_got, one_found (Meanings) |
+-- | VirtualAddressSpace: relative, relative_base, post_base, index | answered r ≡ .. | one_located (Meanings) |
+-- | stream: read_integer, read_name_ref, read_literal | answered_or_cut r ≡ .. | one_integer, one_name_ref, one_literal (Meanings) |
 -- | block: read_line | line_read r ≡ .. | one_line (Meanings) |
--- | header_prefix: read_prefix | prefix_read r ≡ .. | one_prefix (Meanings) |
+-- | header_prefix: read_prefix | answered r ≡ .. | one_prefix (Meanings) |
 -- | decoder_stream: read_report | report_read r ≡ .. | one_report (Meanings) |
 -- | entries, Ring: newest | latest r ≡ .. | one_latest (Meanings) |
 -- | dynamic: capacity_test | tested r ≡ .. | one_capacity_test (Meanings) |
@@ -32,18 +32,21 @@
 -- | instructions: read_instruction | instruction_read s r ≡ .. | one_instruction: see there |
 -- | field_lines: read_on, read_static | field_read s a r ≡ .., for every arena | one_field: see there |
 -- | field_lines: entry_on, entry_static, static_entry | entry_read a r ≡ .., for every arena | one_entry: see there |
-use mathlib.Core.Path.{◌≡◌, sym, ap, ◌∙◌}
+use mathlib.Core.Path.{◌≡◌, refl, sym, ap, ◌∙◌}
 use mathlib.Core.List.{List, [], ◌++◌}
 use mathlib.Core.Option.{Option}
 use Prim.Native.Nat.{ℕ}
 use lib.ListN.{length, drop}
+use Rattle.std.specs.Prelude.{Result, cond, Option as Maybe}
+use Rattle.answers.specs.declared.Refusal.{Refusal}
 use Rattle.answers.specs.Answer.{Answer}
 use Rattle.answers.specs.Table.{Done}
 use Rattle.answers.specs.Write.{Writes}
-use Rattle.answers.specs.declared.Written.{Written}
 use Rattle.decoder.specs.Section as section
 use Rattle.section_steps.specs.declared.Decoded.{Decoded}
-use Rattle.section_steps.specs.declared.Line.{Line}
+use Rattle.section_steps.specs.Section.{Line, line_told}
+use Rattle.section_steps.specs.declared.Line.{Line as CodeLine}
+use Rattle.section_steps.specs.declared.Line.TheVariants as step
 use Rattle.decoder_stream.specs.Reports as reports
 use Rattle.decoder_stream.specs.declared.Reported.{Reported}
 use Rattle.dynamic.specs.Calls as calls
@@ -57,16 +60,17 @@ use Rattle.encoder_stream.specs.declared.Received.{Received}
 use Rattle.entries.specs.declared.Room.{Room}
 use Rattle.field.specs.Field.{Field}
 use Rattle.field_lines.specs.Line.{Read, field_read, entry_read}
-use Rattle.line_entries.specs.declared.EntryRead.{EntryRead}
-use Rattle.field_lines.specs.declared.FieldRead.{FieldRead}
+use Rattle.line_entries.specs.declared.Entry.{Entry}
+use Rattle.field_lines.specs.declared.FieldAt.{FieldAt}
 use Rattle.instructions.specs.Instruction.{Instruction, instruction_read}
-use Rattle.instructions.specs.declared.InstructionRead.{InstructionRead}
+use Rattle.instructions.specs.declared.Parsed.{Parsed}
 use Rattle.model.specs.Table as model
 use Rattle.ring.specs.Ring.{Pushes, placed_bytes, bytes_after}
 use Rattle.ring.specs.declared.Pushed.{Pushed}
 use Rattle.ring.specs.declared.Ring.{Ring}
 use Rattle.ring.specs.declared.Source.{Source}
 use Rattle.running.specs.Run.{Whole, Ended}
+use Rattle.running.specs.declared.Whole.{Whole as CodeWhole}
 use Rattle.demands.proofs.Meanings.{one_reply, one_written}
 
 -- a result that is a definition of the input alone
@@ -131,15 +135,22 @@ one_section {R} r r' fs fs' m m' w w' =
 
 -- one line at a time: what is told, the next cursor, the field, and the buffer
 -- after: the buffer after a step, by its line
-pub one_step : (after : Line → List ℕ) {x : Line} (r r' : Line) (m m' : List ℕ)
-    → (r ≡ x) × (m ≡ after r) → (r' ≡ x) × (m' ≡ after r') → (r ≡ r') × (m ≡ m')
+pub one_step : (after : Line → List ℕ) {x : Line} (r r' : CodeLine) (m m' : List ℕ)
+    → (line_told r ≡ x) × (m ≡ after (line_told r)) → (line_told r' ≡ x) × (m' ≡ after (line_told r')) → (r ≡ r') × (m ≡ m')
 one_step after r r' m m' w w' =
-    let same : r ≡ r' = one_exact w.0 w'.0 in
-    (same, w.1 ∙ ap after same ∙ sym w'.1)
+    let same : line_told r ≡ line_told r' = one_exact w.0 w'.0 in
+    (sym (way r) ∙ ap back same ∙ way r', w.1 ∙ ap after same ∙ sym w'.1)
+  where
+    back : Line → CodeLine
+    back l = cond l.done (step.Ended l.decoded.reply l.next) (step.Found l.field l.next)
+
+    way : (r : CodeLine) → back (line_told r) ≡ r
+    way (step.Ended y c) = refl
+    way (step.Found f c) = refl
 
 -- ---- writers
 
-pub one_write : (x : Answer (List ℕ)) (l : List ℕ) (at : ℕ) (r r' : Written) (m m' : List ℕ) → Writes x l at r m → Writes x l at r' m'
+pub one_write : (x : Answer (List ℕ)) (l : List ℕ) (at : ℕ) (r r' : Result ℕ Refusal) (m m' : List ℕ) → Writes x l at r m → Writes x l at r' m'
     → (r ≡ r') × (m ≡ m')
 one_write x l at r r' m m' w w' = (one_written r r' w.answer w'.answer, one_exact w.bytes w'.bytes)
 
@@ -158,15 +169,15 @@ one_room x r r' w w' = one_exact (w []) (w' [])
 -- a position itself it does not, where the same bytes stand in two places. So equal is what the answers stand for
 
 -- the kind, its numbers, its strings byte for byte, the position past it; or cut; or the refusal
-pub one_instruction : (s : List ℕ) {x : Answer (Option (Whole Instruction))} (r r' : InstructionRead)
+pub one_instruction : (s : List ℕ) {x : Answer (Option (Whole Instruction))} (r r' : Result (Maybe (CodeWhole Parsed)) Refusal)
     → instruction_read s r ≡ x → instruction_read s r' ≡ x → instruction_read s r ≡ instruction_read s r'
 one_instruction s r r' w w' = one_exact w w'
 
 -- the name and the value byte for byte, in whatever arena, and the position past the line; or the refusal
-pub one_field : (s : List ℕ) (x : List ℕ → Answer Read) (r r' : FieldRead) → ((a : List ℕ) → field_read s a r ≡ x a)
+pub one_field : (s : List ℕ) (x : List ℕ → Answer Read) (r r' : Result FieldAt Refusal) → ((a : List ℕ) → field_read s a r ≡ x a)
     → ((a : List ℕ) → field_read s a r' ≡ x a) → (a : List ℕ) → field_read s a r ≡ field_read s a r'
 one_field s x r r' w w' a = one_exact (w a) (w' a)
 
-pub one_entry : (x : List ℕ → Answer Field) (r r' : EntryRead) → ((a : List ℕ) → entry_read a r ≡ x a)
+pub one_entry : (x : List ℕ → Answer Field) (r r' : Result Entry Refusal) → ((a : List ℕ) → entry_read a r ≡ x a)
     → ((a : List ℕ) → entry_read a r' ≡ x a) → (a : List ℕ) → entry_read a r ≡ entry_read a r'
 one_entry x r r' w w' a = one_exact (w a) (w' a)

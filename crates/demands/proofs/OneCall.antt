@@ -5,12 +5,13 @@ use mathlib.Core.List.{List, ◌++◌}
 use Prim.Native.Nat.{ℕ, ◌-◌}
 use lib.Dec.{ltb}
 use lib.ListN.{length, drop}
-use Rattle.answers.specs.Table.{replied, found, inserted}
+use Rattle.answers.specs.Answer.{answered}
+use Rattle.answers.specs.Table.{replied}
 use Rattle.arena.specs.Ring.{long_enough, ring_write}
 use Rattle.arena.proofs.RingWrite.{length_ring_write}
 use Rattle.decoder.specs.Section as section
 use Rattle.section_steps.specs.declared.Cursor.{Cursor}
-use Rattle.section_steps.specs.declared.Line.{Line}
+use Rattle.section_steps.specs.Section.{Line}
 use Rattle.dynamic.specs.Calls as calls
 use Rattle.dynamic.specs.Record.{view, sound, usable}
 use Rattle.dynamic.specs.declared.Inserting.{Inserting}
@@ -27,17 +28,13 @@ use Rattle.model.specs.Table as model
 use Rattle.ring.specs.Ring.{fields_of}
 use Rattle.ring.specs.declared.Ring.{Ring}
 use Rattle.running.specs.Run.{Ended}
-use Rattle.demands.specs.Calls.{State, holds, Call, set_capacity, set_blocked_maximum, put, find, insert, begin, commit, abandon}
-use Rattle.demands.specs.Calls.{acknowledge, cancel, increment, encoder_stream, decoder_stream, decode_header, read_on, next_on, lend}
-use Rattle.demands.specs.Calls.{Answered, plain, looked, insertion, received, decoded, decoded_numbers, stepped}
-use Rattle.demands.specs.Calls.{replying, putting, looking, inserting, receiving, calling, called}
+use Rattle.demands.specs.Calls.{State, holds, Call, set_capacity, set_blocked_maximum, put, find, insert, begin, commit, abandon, acknowledge, cancel, increment, encoder_stream, decoder_stream, decode_header, read_on, next_on, lend, Answered, plain, looked, insertion, received, decoded, decoded_numbers, stepped, replying, putting, looking, inserting, receiving, calling, called}
 use Rattle.demands.specs.Strings.{Alike, AlikeCall, same, lent, AlikeOutcome}
 use Rattle.demands.proofs.AlikeStream.{receiving_alike}
 use Rattle.demands.proofs.Arenas.{same_put, same_find, same_insert, same_line, same_bytes as same-line-bytes, same_section}
-use Rattle.demands.proofs.Full.{Full}
+use Rattle.demands.proofs.Full.{Full, shape_of}
 use Rattle.demands.proofs.Steps.{puts}
-use Rattle.demands.proofs.Untouched.{Same, capacity_same, most_same, begin_same, abandon_same, commit_same, release_same}
-use Rattle.demands.proofs.Untouched.{increment_same, find_same, reports_same}
+use Rattle.demands.proofs.Untouched.{Same, capacity_same, most_same, begin_same, abandon_same, commit_same, release_same, increment_same, find_same, reports_same}
 
 -- ---- a put or an insert: the strings that it leaves are those of the model
 
@@ -64,7 +61,7 @@ module _ (t : Table) (f : Full t) (a n v : List ℕ) (h : usable t a ≡ true) w
   insert_shown =
       let r = calls.insert t a n v in
       ap (λ (s : model.Step _). s.next)
-      ((inserts t a (calls.bytes_after t r.table a n v) n v r (record { uses = f.uses; arrays = f.ring }) refl refl).model h)
+      ((inserts t a (calls.bytes_after t r.table a n v) n v r (shape_of f) refl refl).model h)
 
 -- ---- every call
 
@@ -121,7 +118,7 @@ module _ (t : Table) (full : Full t) (a b : List ℕ) (long : long_enough a ≡ 
     find_alike =
         let e = same_find t a b long strings n v in
         record {
-          answer = ap (λ (r : Looked). looked (found r.found)) e;
+          answer = ap (λ (r : Looked). looked (answered r.found)) e;
           state = record {
             table = ap (λ (r : Looked). r.table) e;
             long = long;
@@ -137,7 +134,7 @@ module _ (t : Table) (full : Full t) (a b : List ℕ) (long : long_enough a ≡ 
     insert_alike =
         let e = same_insert t a b long strings n v in
         record {
-          answer = ap (λ (r : Inserting). insertion (inserted r.inserted)) e;
+          answer = ap (λ (r : Inserting). insertion (answered r.inserted)) e;
           state = inserted_alike n v _ _ (ap (λ (r : Inserting). r.table) e)
               (λ h. insert_shown t full a n v h ∙ ap (λ (m : model.Table). (model-insert.insert m field).next) view_same
               ∙ sym (insert_shown t full b n v (second h)))

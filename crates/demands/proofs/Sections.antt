@@ -18,7 +18,7 @@ use Rattle.block.proofs.Rows.{line_row}
 use Rattle.decoder.specs.Section as section
 use Rattle.section_steps.specs.declared.Cursor.{Cursor}
 use Rattle.section_steps.specs.declared.Field.{Field}
-use Rattle.section_steps.specs.declared.Line.{Line}
+use Rattle.section_steps.specs.Section.{Line}
 use Rattle.dynamic.specs.Record.{sound, usable}
 use Rattle.dynamic.specs.declared.Table.{Table}
 use Rattle.dynamic.proofs.Sound.{facts}

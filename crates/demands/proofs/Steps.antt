@@ -7,6 +7,7 @@ use native.Mathlib.Omega.{arith}
 use lib.Dec.{leb, eqb}
 use lib.ListN.{length}
 use borrow.Author.Tests.{le-leb}
+use Rattle.std.specs.Prelude.{Err}
 use Rattle.answers.specs.Answer.{Answer, done, refused, answer_number}
 use Rattle.answers.specs.Table.{Done, ok, replied}
 use Rattle.answers.specs.declared.Insertion.{Insertion}
@@ -23,7 +24,7 @@ use Rattle.dynamic.specs.declared.Replied.{Replied}
 use Rattle.dynamic.specs.declared.Table.{Table}
 use Rattle.dynamic.proofs.Finding.{finds}
 use Rattle.dynamic.proofs.Insertions.{inserts}
-use Rattle.dynamic.proofs.Putting.{puts_open, puts_pushed}
+use Rattle.dynamic.proofs.Putting.{puts_refused, puts_pushed}
 use Rattle.dynamic.proofs.Reports.{release_keeps, increment_keeps}
 use Rattle.dynamic.proofs.Sections.{begin_keeps, abandon_keeps, commit_keeps}
 use Rattle.dynamic.proofs.Setting.{sets_most, sets_capacity}
@@ -37,13 +38,10 @@ use Rattle.ring.specs.Ring.{pushing, bytes_after, placed_bytes}
 use Rattle.ring.specs.declared.Source.TheVariants.{Given}
 use Rattle.running.specs.Run.{Ended, ends, run_all}
 use Rattle.running.proofs.Run.{run_shown, run_good}
-use Rattle.demands.specs.Calls.{State, holds, Call, set_capacity, set_blocked_maximum, put, find, insert, begin, commit, abandon}
-use Rattle.demands.specs.Calls.{acknowledge, cancel, increment, encoder_stream, decoder_stream, decode_header, read_on, next_on, lend, number_said, Outcome}
-use Rattle.demands.specs.Calls.{replying, putting, looking, inserting, reporting, receiving, calling, LongEnough}
-use Rattle.demands.proofs.Full.{Full}
+use Rattle.demands.specs.Calls.{State, holds, Call, set_capacity, set_blocked_maximum, put, find, insert, begin, commit, abandon, acknowledge, cancel, increment, encoder_stream, decoder_stream, decode_header, read_on, next_on, lend, number_said, Outcome, replying, putting, looking, inserting, reporting, receiving, calling, LongEnough}
+use Rattle.demands.proofs.Full.{Full, shape_of}
 use Rattle.demands.proofs.FullCalls.{instructions_good, call_full}
-use Rattle.demands.proofs.ModelRows.{capacity_row, most_row, put_row, begin_row, abandon_row, commit_row, release_row}
-use Rattle.demands.proofs.ModelRows.{increment_row, find_row, insert_row, applied_row, run_row}
+use Rattle.demands.proofs.ModelRows.{capacity_row, most_row, put_row, begin_row, abandon_row, commit_row, release_row, increment_row, find_row, insert_row, applied_row, run_row}
 use Rattle.demands.proofs.Rows.{Row, instruction_row, report_row}
 use Rattle.demands.proofs.Sections.{line_tells, section_tells}
 
@@ -92,7 +90,11 @@ puts t f a n v h = go t.active refl
         (subst (λ (c : List ℕ). Puts t a c exact r n v) w.bytes w)
 
     go : (on : Bool) → t.active ≡ on → Puts t a (calls.bytes_after t exact.table a n v) exact exact n v
-    go true e = settled a _ (puts_open t a n v refl h e)
+    go true e =
+        let rules = and_left (sound t) _ h in
+        let long : long_enough a ≡ true = and_right (sound t) _ h in
+        let why : calls.admitting_with t a false ≡ Err SectionOpen = rw (long, rules, e) in
+        settled a _ (puts_refused t a n v SectionOpen why)
     go false e =
         let p = pushing t.ring a (lowest_used t) Given n v in
         let b = bytes_after p.push a (placed_bytes t.ring a Given n v) in
@@ -137,7 +139,7 @@ module _ (t : Table) (a : List ℕ) (k : Kept (holds t a)) where
     insert_fine : Usable (inserting t a n v (calls.insert t a n v))
     insert_fine =
         let r = calls.insert t a n v in
-        let w = inserts t a (calls.bytes_after t r.table a n v) n v r (record { uses = k.full.uses; arrays = k.full.ring }) refl refl in
+        let w = inserts t a (calls.bytes_after t r.table a n v) n v r (shape_of k.full) refl refl in
         record {
           usable = w.kept k.usable;
           not_22 = λ e. (insert_row (view t a) (record { name = n; value = v })).not_22

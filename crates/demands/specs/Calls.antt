@@ -1,14 +1,14 @@
 -- Any sequence of calls on a table: what each call makes of the record and of the arena, and what it answers, to the last byte.
 use Rattle.std.specs.Prelude.{◌≡◌, true, List, [], ◌∷◌, ◌++◌, map, ℕ, ◌≤◌, length, drop}
-use Rattle.answers.specs.Answer.{Answer, done, answer_number}
-use Rattle.answers.specs.Table.{Done, ok, replied, found, inserted}
+use Rattle.answers.specs.Answer.{answered, Answer, done, answer_number}
+use Rattle.answers.specs.Table.{Done, ok, replied}
 use Rattle.answers.specs.declared.Insertion.{Insertion}
 use Rattle.answers.specs.declared.Lookup.{Lookup}
 use Rattle.arena.specs.Ring.{long_enough}
 use Rattle.decoder.specs.Section as section
 use Rattle.section_steps.specs.declared.Cursor.{Cursor}
 use Rattle.section_steps.specs.declared.Field.{Field}
-use Rattle.section_steps.specs.declared.Line.{Line}
+use Rattle.section_steps.specs.Section.{Line}
 use Rattle.decoder_stream.specs.Reports as reports
 use Rattle.dynamic.specs.Calls as calls
 use Rattle.dynamic.specs.declared.Inserting.{Inserting}
@@ -95,11 +95,11 @@ putting t a n v r =
     record { state = holds r.table (calls.bytes_after t r.table a n v); answer = plain (replied r.reply) }
 
 abbrev pub looking : List ℕ → Looked → Outcome
-looking a r = record { state = holds r.table a; answer = looked (found r.found) }
+looking a r = record { state = holds r.table a; answer = looked (answered r.found) }
 
 abbrev pub inserting : Table → List ℕ → List ℕ → List ℕ → Inserting → Outcome
 inserting t a n v r =
-    record { state = holds r.table (calls.bytes_after t r.table a n v); answer = insertion (inserted r.inserted) }
+    record { state = holds r.table (calls.bytes_after t r.table a n v); answer = insertion (answered r.inserted) }
 
 abbrev pub reporting : List ℕ → Ended Table → Outcome
 reporting a e = record { state = holds e.state a; answer = reported e.consumed e.answer }

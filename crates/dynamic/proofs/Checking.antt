@@ -1,16 +1,15 @@
 -- What the floors of the queue and of the open section say of a record's rules, and what its check then finds. Assumes nothing.
-use mathlib.Core.Path.{◌≡◌, refl}
+use mathlib.Core.Path.{◌≡◌, refl, sym, ap, ◌∙◌}
 use mathlib.Core.Bool.{Bool, true, false, cond}
 use Prim.Native.Nat.{ℕ, ◌≤◌, ◌<◌}
 use borrow.Author.Tests.{le-leb, lt-ltb}
 use Rattle.model.specs.Bounds.{blocked_sections}
 use Rattle.ring.specs.Ring.{largest_count, keeps}
-use Rattle.tracking.specs.Queue.{queue_floor, lowest}
+use Rattle.std.specs.Prelude.{Some, None, Option as Maybe}
+use Rattle.tracking.specs.Queue.{Floor, floored, queue_floor, lowest}
 use Rattle.blocked.specs.Waiting.{keeps_count}
-use Rattle.dynamic.specs.Record.{uses_here, open_rules, open_keeps, queue_keeps, sound}
-use Rattle.dynamic.specs.Record.{nothing_used, lowest_queued, lowest_used, open_floor, checking}
+use Rattle.dynamic.specs.Record.{checked, uses_here, open_rules, open_keeps, queue_keeps, sound, nothing_used, lowest_queued, lowest_used, open_floor, checking, Checked}
 use Rattle.call_parts.proofs.Opening.{floor_by, live_by}
-use Rattle.dynamic.specs.declared.Checked.{Checked}
 use Rattle.dynamic.specs.declared.Table.{Table}
 
 -- a table's queue, and its open section
@@ -52,6 +51,14 @@ module _ (t : Table) where
   unfolding checking
   breaks h = rw h
 
-  pub finds : (low : ℕ) → low ≡ lowest_used t → sound t ≡ true → ◌≡◌ {A = Checked} (record { sound = true; low = low }) (checking t)
+  finds : (low : ℕ) → low ≡ lowest_used t → sound t ≡ true → ◌≡◌ {A = Checked} (record { sound = true; low = low }) (checking t)
   unfolding checking
   finds low e h = rw (h, e)
+
+  -- where all but the open section's rules are kept, the open section's floor tells
+  pub all_checked : (low : ℕ) (r : Maybe ℕ) → low ≡ lowest_queued t → sound t ≡ open_keeps t
+      → floored low r ≡ open_floor t.active t.base t.section t.ring.dropped t.ring.inserted low → checked r ≡ checking t
+  all_checked low (Some x) e s f =
+      let live : open_keeps t ≡ true = sym (open_lives low) ∙ ap (λ (f : Floor). f.live) (sym f) in
+      finds x (ap (λ (f : Floor). f.low) f ∙ open_low low e live) (s ∙ live)
+  all_checked low None e s f = breaks (s ∙ sym (open_lives low) ∙ ap (λ (f : Floor). f.live) (sym f))

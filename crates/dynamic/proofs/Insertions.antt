@@ -1,14 +1,14 @@
 -- An insert to the last field is an insert in the model, and keeps the rules; and its answer by the tests. Assumes nothing.
-use mathlib.Core.Path.{◌≡◌, refl, ap, ◌∙◌}
+use mathlib.Core.Path.{◌≡◌, refl}
 use mathlib.Core.Bool.{Bool, true, false, cond}
 use mathlib.Core.List.{List}
 use mathlib.Core.Option.{Option, some, none}
 use Prim.Native.Nat.{ℕ}
 use lib.Dec.{leb}
 use lib.ListN.{length}
-use Rattle.answers.specs.declared.Insert.{Insert}
+use Rattle.std.specs.Prelude.{Err}
+use Rattle.answers.specs.declared.Refusal.{Refusal}
 use Rattle.answers.specs.declared.Refusal.TheVariants.{NoSection}
-use Rattle.answers.specs.declared.Reply.{Reply}
 use Rattle.arena.specs.Ring.{long_enough}
 use Rattle.entries.specs.declared.Room.{Room}
 use Rattle.entries.proofs.Chain.{and_left, and_right}
@@ -21,28 +21,28 @@ use Rattle.ring.specs.Ring.{room_for, making}
 use Rattle.ring.proofs.Making.{room_after, room_for_some, room_for_none}
 use Rattle.blocked.specs.Waiting.{waiting_of}
 use Rattle.blocked.proofs.Blocked.{waiting_count}
-use Rattle.dynamic.specs.Calls.{admitted, inserting, not_inserted, made, made_or, insert_open, insert_first, insert, bytes_after}
+use Rattle.dynamic.specs.Calls.{admitting_with, inserting, not_inserted, made, made_or, insert_open, insert, bytes_after}
 use Rattle.dynamic.specs.Promise.{Inserts}
-use Rattle.dynamic.specs.Record.{view, sound, usable, lowest_used}
+use Rattle.dynamic.specs.Record.{Shape, view, sound, usable, lowest_used}
 use Rattle.dynamic.specs.declared.Inserting.{Inserting}
 use Rattle.dynamic.specs.declared.Table.{Table}
 use Rattle.dynamic.proofs.Finding.{open_here}
 use Rattle.dynamic.proofs.Free.{same_making}
-use Rattle.dynamic.proofs.Made.{Shape, new, Answers, unmade_answers, refused_answers, made_answers}
+use Rattle.dynamic.proofs.Made.{new, Answers, unmade_answers, refused_answers, made_answers}
 use Rattle.dynamic.proofs.Sound.{Sound, facts}
+use Rattle.dynamic.proofs.Steps.{open_with_refused}
 use Rattle.dynamic.proofs.Unmade.{unmade}
 
 -- ---- the answer by the tests
 
 module _ (t : Table) (a n v : List ℕ) where
-  pub insert_first_lem : (u : Bool) (r : Reply) → u ≡ usable t a → r ≡ admitted u t.active true → insert_first r t a n v ≡ insert t a n v
+  pub insert_refused : (why : Refusal) → admitting_with t a true ≡ Err why → inserting t (Err why) ≡ insert t a n v
   unfolding insert
-  insert_first_lem u r h e = go u t.active h refl e
-    where
-      go : (u on : Bool) → u ≡ usable t a → t.active ≡ on → r ≡ admitted u on true → insert_first r t a n v ≡ insert t a n v
-      go true true h o e = ap (λ (x : Reply). insert_first x t a n v) e ∙ rw (← h, o)
-      go true false h o e = ap (λ (x : Reply). insert_first x t a n v) e ∙ rw (← h, o)
-      go false on h o e = ap (λ (x : Reply). insert_first x t a n v) e ∙ rw (← h)
+  insert_refused why e = open_with_refused t (λ (w : Refusal). inserting t (Err w)) _ why a e
+
+  pub insert_opened : sound t ≡ true → long_enough a ≡ true → t.active ≡ true → insert_open t a n v ≡ insert t a n v
+  unfolding insert
+  insert_opened rules long active = rw (rules, long, active)
 
   -- as many are blocked as may be
   pub enter_blocked : leb t.most t.waiting.total ≡ true → not_inserted t a n v ≡ insert_open t a n v
@@ -98,7 +98,7 @@ module _ (t : Table) (a n v : List ℕ) (shape : Shape t) (u : usable t a ≡ tr
   insert_answers = rw (rules, long) (go t.active refl)
     where
       go : (b : Bool) → t.active ≡ b
-          → Answers t a n v (cond b (insert_open t a n v) (inserting t (Insert.Refused NoSection)))
+          → Answers t a n v (cond b (insert_open t a n v) (inserting t (Err NoSection)))
           (sections.in_section (view t a) (cond b (some (open_here t)) none) (λ (o : Open).
           cond (leb t.most (blocked_count (waiting_of t.waiting)))
           (model.not_inserted (view t a) o n)

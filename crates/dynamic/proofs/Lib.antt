@@ -16,5 +16,4 @@ pub mod Setting
 pub mod Sound
 pub mod Staying
 pub mod Steps
-pub mod Told
 pub mod Unmade

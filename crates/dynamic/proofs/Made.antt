@@ -8,8 +8,8 @@ use native.Mathlib.Omega.{arith}
 use lib.Dec.{ltb}
 use lib.ListN.{length, drop}
 use borrow.Author.Tests.{le-ltb, lt-ltb, ltb-true}
-use Rattle.answers.specs.Table.{inserted}
-use Rattle.answers.specs.declared.Insert.{Insert}
+use Rattle.std.specs.Prelude.{Result, Ok, Err}
+use Rattle.answers.specs.Answer.{answered}
 use Rattle.answers.specs.declared.Insertion.{Insertion}
 use Rattle.answers.specs.declared.Refusal.{Refusal}
 use Rattle.answers.specs.declared.Refusal.TheVariants.{TrackingFull, CountTooLarge}
@@ -31,7 +31,7 @@ use Rattle.ring.proofs.Growing.{Grown, shrunk}
 use Rattle.ring.proofs.Keeping.{Kept, Arrays, kept, count_fields}
 use Rattle.ring.proofs.Making.{count_of, room_for_tells, Makes, makes}
 use Rattle.ring.proofs.Pushing.{Usable, push_made, push_grown}
-use Rattle.tracking.specs.declared.Noted.{Noted}
+use Rattle.tracking.specs.Uses.{Noted}
 use Rattle.tracking.proofs.Floors.{few_uses}
 use Rattle.dynamic.specs.Calls.{
   with_ring,
@@ -41,11 +41,10 @@ use Rattle.dynamic.specs.Calls.{
   origin_after,
   noted_for,
   made,
-  RoomOf,
   bytes_after,
 }
 use Rattle.dynamic.specs.Promise.{outcome}
-use Rattle.dynamic.specs.Record.{uses_here, view, sound, usable, lowest_used}
+use Rattle.dynamic.specs.Record.{RoomOf, Shape, uses_here, view, sound, usable, lowest_used}
 use Rattle.dynamic.specs.declared.Inserting.{Inserting}
 use Rattle.dynamic.specs.declared.Table.{Table}
 use Rattle.dynamic.proofs.Finding.{open_here}
@@ -57,10 +56,9 @@ use Rattle.dynamic.proofs.Sound.{Sound, is_sound, open_facts, open_keeps_lem}
 use Rattle.dynamic.proofs.Staying.{queue_stays, section_stays}
 use Rattle.dynamic.proofs.Unmade.{last_name, Unmade}
 
--- the arrays of a record have all their places
-pub record Shape (t : Table) : Type 0 where
-  pub uses : length t.section.uses ≡ section_entries
-  pub arrays : Arrays t.ring
+-- those of its entries
+pub arrays_of : {t : Table} → Shape t → Arrays t.ring
+arrays_of s = record { starts = s.starts; names = s.names; values = s.values }
 
 -- the numbers of an open table of which k entries may go
 pub record Counts (t : Table) (k : ℕ) : Type 0 where
@@ -78,16 +76,16 @@ module _ (t : Table) (a n v : List ℕ) where
 
   module _ (room : Room) (w : Origin) (u : Noted) (ew : w ≡ origin_after t.ring (t.ring.dropped + room.count) a n v)
       (eu : u ≡ noted_for t.section (t.ring.inserted + 1) w) where
-    pub made_full : u.fits ≡ false → inserting t (Insert.Refused TrackingFull) ≡ made t room a n v
+    pub made_full : u.fits ≡ false → inserting t (Err TrackingFull) ≡ made t room a n v
     unfolding made
     made_full h = rw (← ew, ← eu, h)
 
-    pub made_over : u.fits ≡ true → largest_count ≤ t.ring.inserted → inserting t (Insert.Refused CountTooLarge) ≡ made t room a n v
+    pub made_over : u.fits ≡ true → largest_count ≤ t.ring.inserted → inserting t (Err CountTooLarge) ≡ made t room a n v
     unfolding made
     made_over h g = rw (← ew, ← eu, h, le-ltb _ _ g)
 
     pub made_new : u.fits ≡ true → t.ring.inserted < largest_count → (p : Pushed) → p ≡ pushing t.ring a (lowest_used t) Given n v
-        → inserting (with_noted u (with_ring p.ring t)) (Insert.Insertion (insertion_of t.base (t.ring.inserted + 1) w)) ≡ made t room a n v
+        → inserting (with_noted u (with_ring p.ring t)) (Ok (insertion_of t.base (t.ring.inserted + 1) w)) ≡ made t room a n v
     unfolding made
     made_new h g p e = rw (← ew, ← eu, ← e, h, lt-ltb _ _ g)
 
@@ -110,6 +108,20 @@ module _ (t : Table) (a n v : List ℕ) where
 
   -- ---- where so many go
 
+  module _ (s : Sound t) (k : ℕ) (q : making t.ring (lowest_used t) (size_of new) ≡ some k) (active : t.active ≡ true) where
+    pub counts : Counts t k
+    counts =
+        let r = kept t.ring s.ring in
+        let o = open_facts t s active in
+        let few = few_uses t.ring.dropped t.ring.inserted t.section o.live in
+        record {
+          counted = r.counted;
+          gone = omega (arith, (makes t.ring (lowest_used t) (size_of new) k q).within, r.rules.order);
+          from = o.from_low;
+          base = o.base_within;
+          near = omega (arith, o.every, few);
+        }
+
   module _ (s : Sound t) (shape : Shape t) (long : long_enough a ≡ true) (k : ℕ)
       (q : making t.ring (lowest_used t) (size_of new) ≡ some k) where
     ring_rules : Kept t.ring
@@ -124,7 +136,7 @@ module _ (t : Table) (a n v : List ℕ) where
     pub pushes_new : (b : List ℕ) (p : Pushed) → t.ring.inserted < largest_count → Pushes t.ring a b (lowest_used t) Given n v p
         → Grown t.ring a k new p.ring b
     unfolding field_from
-    pushes_new b p less w = push_grown usable_ring w k q less shape.arrays
+    pushes_new b p less w = push_grown usable_ring w k q less (arrays_of shape)
 
     pub pushes_bytes : (b : List ℕ) (p : Pushed) → t.ring.inserted < largest_count → Pushes t.ring a b (lowest_used t) Given n v p
         → b ≡ ring_write a t.ring.head (n ++ v)
@@ -147,19 +159,9 @@ module _ (t : Table) (a n v : List ℕ) where
       few : t.section.used ≤ section_entries
       few = few_uses t.ring.dropped t.ring.inserted t.section opened.live
 
-      pub counts : Counts t k
-      counts =
-          record {
-            counted = ring_rules.counted;
-            gone = omega (arith, goes.within, ring_rules.rules.order);
-            from = opened.from_low;
-            base = opened.base_within;
-            near = omega (arith, opened.every, few);
-          }
-
       cut_fields : fields_after t.ring (t.ring.dropped + k) a ≡ drop k (fields_of t.ring a)
       cut_fields =
-          (shrunk t.ring ring_rules k goes.within t.ring.capacity ring_rules.rules.most (omega (arith, goes.left)) shape.arrays
+          (shrunk t.ring ring_rules k goes.within t.ring.capacity ring_rules.rules.most (omega (arith, goes.left)) (arrays_of shape)
           ).fields a
 
       same_origin : model.origin_in (without k (view t a)) new ≡ by
@@ -218,7 +220,7 @@ module _ (t : Table) (a n v : List ℕ) where
 
 -- what is promised of an answer, and of the arena after it
 pub record Answers (t : Table) (a n v : List ℕ) (r : Inserting) (s : Step Insertion) : Type 0 where
-  pub model : outcome r.table (bytes_after t r.table a n v) (inserted r.inserted) ≡ s
+  pub model : outcome r.table (bytes_after t r.table a n v) (answered r.inserted) ≡ s
   pub kept : usable r.table (bytes_after t r.table a n v) ≡ true
 
 pub unmade_answers : (t : Table) (a n v : List ℕ) (r : Inserting) (s : Step Insertion) → long_enough a ≡ true → Unmade t a r s
@@ -229,7 +231,7 @@ unmade_answers t a n v r s long u =
 
 -- a refusal changes nothing
 pub refused_answers : (t : Table) (a n v : List ℕ) (w : Refusal) → sound t ≡ true → long_enough a ≡ true
-    → Answers t a n v (inserting t (Insert.Refused w)) (refuse (view t a) w)
+    → Answers t a n v (inserting t (Err w)) (refuse (view t a) w)
 refused_answers t a n v w rules long = unmade_answers t a n v _ _ long (record { model = refl; kept = rules; ring = refl })
 
 module _ (t : Table) (a n v : List ℕ) (s : Sound t) (shape : Shape t) (long : long_enough a ≡ true) (k : ℕ)
@@ -243,15 +245,15 @@ module _ (t : Table) (a n v : List ℕ) (s : Sound t) (shape : Shape t) (long : 
   abbrev push : Pushed
   push = pushing t.ring a (lowest_used t) Given n v
 
-  abbrev insertion : Insert
-  insertion = Insert.Insertion (insertion_of t.base (t.ring.inserted + 1) origin)
+  abbrev insertion : Result Insertion Refusal
+  insertion = Ok (insertion_of t.base (t.ring.inserted + 1) origin)
 
   new_answers : uses.fits ≡ true → t.ring.inserted < largest_count
       → Answers t a n v (inserting (with_noted uses (with_ring push.ring t)) insertion)
       (record {
         next = sections.with_open (some (sections.with_uses (uses_here (with_uses t.section uses)) (open_here t)))
             (with_field (new t a n v) (without k (view t a)));
-        answer = inserted insertion;
+        answer = answered insertion;
       })
   new_answers fits less =
       let b = ring_write a t.ring.head (n ++ v) in
@@ -273,17 +275,17 @@ module _ (t : Table) (a n v : List ℕ) (s : Sound t) (shape : Shape t) (long : 
       rw (e, same_origin t a n v s shape long k q active, counted t a n v s shape long k q active, same_notes t a n v s shape long k q active)
       (go uses.fits refl)
     where
-      refuses : (w : Refusal) → Answers t a n v (inserting t (Insert.Refused w)) (refuse (view t a) w)
+      refuses : (w : Refusal) → Answers t a n v (inserting t (Err w)) (refuse (view t a) w)
       refuses w = refused_answers t a n v w (is_sound t s) long
 
       under : (c : Bool) → ltb t.ring.inserted largest_count ≡ c → uses.fits ≡ true
           → Answers t a n v
-          (cond c (inserting (with_noted uses (with_ring push.ring t)) insertion) (inserting t (Insert.Refused CountTooLarge)))
+          (cond c (inserting (with_noted uses (with_ring push.ring t)) insertion) (inserting t (Err CountTooLarge)))
           (cond c
           (record {
             next = sections.with_open (some (sections.with_uses (uses_here (with_uses t.section uses)) (open_here t)))
                 (with_field (new t a n v) (without k (view t a)));
-            answer = inserted insertion;
+            answer = answered insertion;
           })
           (refuse (view t a) CountTooLarge))
       under true c fits = new_answers fits (ltb-true _ _ c)
@@ -294,8 +296,8 @@ module _ (t : Table) (a n v : List ℕ) (s : Sound t) (shape : Shape t) (long : 
           (cond b
           (cond (ltb t.ring.inserted largest_count)
           (inserting (with_noted uses (with_ring push.ring t)) insertion)
-          (inserting t (Insert.Refused CountTooLarge)))
-          (inserting t (Insert.Refused TrackingFull)))
+          (inserting t (Err CountTooLarge)))
+          (inserting t (Err TrackingFull)))
           (model.inserted_by (view t a) (without k (view t a)) (open_here t) (new t a n v) origin
           (cond b (some (uses_here (with_uses t.section uses))) none))
       go true fits = rw (counted t a n v s shape long k q active) (under (ltb t.ring.inserted largest_count) refl fits)

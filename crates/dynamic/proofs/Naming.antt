@@ -8,7 +8,7 @@ use native.Mathlib.Omega.{arith}
 use Rattle.model.specs.Insert.{Origin, equal_entry, static_name, named_entry, plain}
 use Rattle.ring.specs.declared.Ring.{Ring}
 use Rattle.static_table.specs.Static.{lowest_name}
-use Rattle.tracking.specs.declared.Noted.{Noted}
+use Rattle.tracking.specs.Uses.{Noted}
 use Rattle.tracking.specs.declared.Section.{Section}
 use Rattle.dynamic.specs.Calls.{latest_after, origin_after, noted_in, with_uses, note_also, noted_for, NewerThan}
 use Rattle.dynamic.specs.declared.Origin.{Origin as Naming}

@@ -17,12 +17,12 @@ use Rattle.model.specs.Table.{Use}
 use Rattle.ring.specs.declared.Ring.{Ring}
 use Rattle.static_table.specs.Static.{lowest_name}
 use Rattle.tracking.specs.Queue.{is_live_use, all_live, section_live}
-use Rattle.tracking.specs.declared.Noted.{Noted}
+use Rattle.tracking.specs.Uses.{Noted}
 use Rattle.tracking.specs.declared.Section.{Section}
 use Rattle.tracking.proofs.Floors.{few_uses, uses_live}
 use Rattle.tracking.proofs.Flooring.{inserted}
 use Rattle.blocked.proofs.Lists.{and_left, and_right}
-use Rattle.tracking.proofs.Uses.{used_few, noted_new}
+use Rattle.tracking.proofs.Using.{used_few, noted_new}
 use Rattle.dynamic.specs.Calls.{latest_after, origin_after, noted_in, with_uses, note_also, noted_for}
 use Rattle.dynamic.specs.Record.{uses_here}
 use Rattle.dynamic.proofs.Searched.{found_within}

@@ -7,12 +7,12 @@ use Prim.Native.Nat.{ℕ, ◌≤◌, ◌<◌}
 use native.Mathlib.Omega.{arith}
 use lib.Dec.{leb, ltb, eqb}
 use borrow.Author.Tests.{le-ltb, lt-ltb, ltb-true, ltb-false, leb-true, leb-false, ne_eqb}
+use Rattle.std.specs.Prelude.{Ok, Err}
 use Rattle.answers.specs.Answer.{done}
 use Rattle.answers.specs.Table.{Done, ok}
 use Rattle.answers.specs.declared.Refusal.{Refusal}
-use Rattle.answers.specs.declared.Refusal.TheVariants.{MaxTableSizeReached, SectionOpen, BadCall}
-use Rattle.answers.specs.declared.Reply.{Reply}
-use Rattle.arena.specs.Ring.{ring_write}
+use Rattle.answers.specs.declared.Refusal.TheVariants.{MaxTableSizeReached, SectionOpen}
+use Rattle.arena.specs.Ring.{long_enough, ring_write}
 use Rattle.entries.proofs.Chain.{and_left, and_right}
 use Rattle.field.specs.Field.{Field, size_of}
 use Rattle.model.specs.Drop as drops
@@ -27,7 +27,7 @@ use Rattle.ring.proofs.Growing.{Grown}
 use Rattle.ring.proofs.Keeping.{Arrays, kept, count_fields}
 use Rattle.ring.proofs.Making.{makes}
 use Rattle.ring.proofs.Pushing.{Usable, Stays, push_too_large, push_no_room, push_full, push_made, push_grown}
-use Rattle.dynamic.specs.Calls.{with_ring, answer, no, admitted, push_reply, put_by, put, bytes_after}
+use Rattle.dynamic.specs.Calls.{with_ring, answer, no, admitting_with, push_reply, put_by, put, bytes_after}
 use Rattle.dynamic.specs.Promise.{Puts}
 use Rattle.dynamic.specs.Record.{view, sound, usable, lowest_used}
 use Rattle.dynamic.specs.declared.Replied.{Replied}
@@ -36,7 +36,7 @@ use Rattle.dynamic.proofs.Free.{same_making, still_above}
 use Rattle.dynamic.proofs.Setting.{step_of}
 use Rattle.dynamic.proofs.Sound.{Sound, facts, is_sound}
 use Rattle.dynamic.proofs.Staying.{closed_stays}
-use Rattle.dynamic.proofs.Steps.{kind, clash}
+use Rattle.dynamic.proofs.Steps.{closed_with_refused}
 
 -- ---- in the model, for a closed table
 
@@ -64,35 +64,22 @@ module _ (t : Table) (a n v : List ℕ) where
 
   -- ---- refusals
 
-  pub puts_unusable : {r : Replied} → r ≡ no t BadCall → usable t a ≡ false → Puts t a a (put t a n v) r n v
-  unfolding put
-  puts_unusable e h =
-      record {
-        next = e ∙ rw h;
-        bytes = rw e same_bytes;
-        model = λ u. let z : ◌≡◌ {A = ℕ} 0 1 = cc in absurd (omega arith);
-        kept = λ u. rw e u;
-      }
-
-  pub puts_open : {r : Replied} → r ≡ no t SectionOpen → usable t a ≡ true → t.active ≡ true → Puts t a a (put t a n v) r n v
+  pub puts_refused : (why : Refusal) → admitting_with t a false ≡ Err why → Puts t a a (put t a n v) (no t why) n v
   unfolding put drops.put view
-  puts_open e h on =
+  puts_refused why e =
       record {
-        next = e ∙ rw (h, on);
-        bytes = rw e same_bytes;
-        model = λ u. rw (e, on);
-        kept = λ u. rw e u;
+        next = closed_with_refused t (no t) _ why a e;
+        bytes = same_bytes;
+        model = λ u. go t.active refl (and_left (sound t) _ u) (and_right (sound t) _ u) e;
+        kept = λ u. u;
       }
-
-  pub puts_refused : (u : Bool) (r : Reply) (why : Refusal) → u ≡ usable t a → r ≡ Reply.Refused why → r ≡ admitted u t.active false
-      → Puts t a a (put t a n v) (answer t r) n v
-  puts_refused u r why h m e = go u t.active h refl e (ap kind (sym m ∙ e))
     where
-      go : (u on : Bool) → u ≡ usable t a → t.active ≡ on → r ≡ admitted u on false → 1 ≡ kind (admitted u on false)
-          → Puts t a a (put t a n v) (answer t r) n v
-      go true true h o e z = puts_open (ap (answer t) e) (sym h) o
-      go true false h o e z = clash (sym z)
-      go false on h o e z = puts_unusable (ap (answer t) e) (sym h)
+      go : (on : Bool) → t.active ≡ on → sound t ≡ true → long_enough a ≡ true → admitting_with t a false ≡ Err why
+          → step_of (no t why) a ≡ drops.put (view t a) new
+      go true o h l e =
+          let w : why ≡ SectionOpen = (let x = rw (l, h, o) at e in cc) in
+          rw (w, o)
+      go false o h l e = let x = rw (l, h, o) at e in let z : ◌≡◌ {A = ℕ} 0 1 = cc in absurd (omega arith)
 
   -- ---- in a closed table that keeps its rules
 
@@ -108,7 +95,7 @@ module _ (t : Table) (a n v : List ℕ) where
     unfolding view push_reply
     put_too_large h = go (eqb t.ring.capacity 0) ∙ sym (model_too_large (view t a) new none_open h)
       where
-        go : (b : Bool) → step_of (answer t (cond b Reply.Done (Reply.Refused MaxTableSizeReached))) a
+        go : (b : Bool) → step_of (answer t (cond b (Ok tt) (Err MaxTableSizeReached))) a
             ≡ cond b (record { next = view t a; answer = done ok }) (model.refuse (view t a) MaxTableSizeReached)
         go true = refl
         go false = refl

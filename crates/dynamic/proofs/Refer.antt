@@ -12,7 +12,7 @@ use Rattle.ring.proofs.Keeping.{kept}
 use Rattle.tracking.specs.Queue.{section_live}
 use Rattle.tracking.specs.declared.Section.{Section}
 use Rattle.tracking.proofs.Floors.{live_use, few_uses, uses_live, section_live_lem}
-use Rattle.tracking.proofs.Uses.{used_few, used_not_less, length_noted, noted_is, noted_live}
+use Rattle.tracking.proofs.Using.{used_few, used_not_less, length_noted, noted_is, noted_live}
 use Rattle.call_parts.proofs.Opening.{Opened}
 use Rattle.dynamic.specs.Calls.{noted_in, with_uses, with_noted}
 use Rattle.dynamic.specs.Record.{uses_here, sound}
@@ -60,30 +60,37 @@ pub record Near (t : Table) (k : ℕ) : Type 0 where
   pub counted : t.ring.inserted ≤ largest_count
   pub offset : entry_at t k - t.section.from < 2 ^ 16
 
-module _ (t : Table) (k : ℕ) (w : Refers t k) where
-  opened : Opened t.base t.section t.ring.dropped t.ring.inserted
-  opened = open_facts t (facts t w.rules) w.active
+module _ (t : Table) (k : ℕ) (rules : sound t ≡ true) (active : t.active ≡ true) (live : k < t.ring.inserted - t.ring.dropped) where
+  opened_here : Opened t.base t.section t.ring.dropped t.ring.inserted
+  opened_here = open_facts t (facts t rules) active
 
-  few : t.section.used ≤ section_entries
-  few = few_uses t.ring.dropped t.ring.inserted t.section opened.live
+  few_here : t.section.used ≤ section_entries
+  few_here = few_uses t.ring.dropped t.ring.inserted t.section opened_here.live
 
   pub near : Near t k
   near =
-      let o = opened in
-      let r = kept t.ring (facts t w.rules).ring in
+      let o = opened_here in
+      let r = kept t.ring (facts t rules).ring in
       record {
         from = o.from_low;
         above = omega arith;
-        below = omega (arith, w.live);
+        below = omega (arith, live);
         counted = r.counted;
-        offset = omega (arith, o.every, o.from_low, few, w.live);
+        offset = omega (arith, o.every, o.from_low, few_here, live);
       }
+
+module _ (t : Table) (k : ℕ) (w : Refers t k) where
+  opened : Opened t.base t.section t.ring.dropped t.ring.inserted
+  opened = opened_here t k w.rules w.active w.live
+
+  few : t.section.used ≤ section_entries
+  few = few_here t k w.rules w.active w.live
 
   pub noted_sound : sound (with_noted (noted_in t.section (entry_at t k)) t) ≡ true
   noted_sound =
       let o = opened in
       let f = facts t w.rules in
-      let n = near in
+      let n = near t k w.rules w.active w.live in
       let s = with_uses t.section (noted_in t.section (entry_at t k)) in
       let live : section_live t.ring.dropped t.ring.inserted s ≡ true =
       note_live _ _ t.section (entry_at t k) w.long n.from n.above n.below o.live in

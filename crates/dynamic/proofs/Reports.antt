@@ -3,24 +3,21 @@ use mathlib.Core.Path.{◌≡◌, refl, sym, ap, ◌∙◌}
 use mathlib.Core.Bool.{Bool, true, false, cond}
 use mathlib.Core.List.{List}
 use mathlib.Core.Option.{some, none}
-use Prim.Native.Nat.{ℕ, ◌+◌, ◌-◌, ◌≤◌, ◌<◌}
-use native.Mathlib.Omega.{arith}
-use lib.Dec.{ltb, leb}
+use Prim.Native.Nat.{ℕ, ◌+◌, ◌≤◌, ◌<◌}
+use lib.Dec.{ltb}
 use lib.ListN.{length, take}
 use borrow.Author.Tests.{ltb-false, lt-ltb, le-ltb}
+use Rattle.std.specs.Prelude.{Ok, Err}
 use Rattle.answers.specs.Table.{replied}
 use Rattle.answers.specs.declared.Refusal.{Refusal}
 use Rattle.answers.specs.declared.Refusal.TheVariants.{UnknownStreamId, CountTooLarge}
-use Rattle.answers.specs.declared.Reply.{Reply}
 use Rattle.model.specs.Bounds.{queue_places, blocked_values}
 use Rattle.model.specs.Report as report
 use Rattle.ring.specs.Ring.{largest_count}
-use Rattle.tracking.specs.Queue.{sections_of, all_sections_live, no_section, oldest_of, closed_up, releasing}
-use Rattle.tracking.specs.declared.Queue.{Queue}
-use Rattle.tracking.specs.declared.Queued.{Queued}
+use Rattle.tracking.specs.Queue.{sections_of, all_sections_live, releasing, Queued}
 use Rattle.tracking.proofs.Sections.{released_is, released_queued, released_live}
 use Rattle.blocked.proofs.Blocked.{let_go_is, let_go_keeps}
-use Rattle.dynamic.specs.Calls.{answer, no, admitted, with_queue, raised, release, increment}
+use Rattle.dynamic.specs.Calls.{answer, no, admitting, with_queue, raised, release, increment}
 use Rattle.dynamic.specs.Promise.{outcome, Keeps}
 use Rattle.dynamic.specs.Record.{view, sound}
 use Rattle.dynamic.specs.declared.Replied.{Replied}
@@ -30,7 +27,7 @@ use Rattle.dynamic.proofs.Steps.{closed_refused, closed_step, keeps_closed}
 
 -- the outcome of a release, from what the queue did
 abbrev after_release : Table → Queued → Replied
-after_release t q = cond q.made (answer (with_queue q.queue t) Reply.Done) (no t UnknownStreamId)
+after_release t q = cond q.made (answer (with_queue q.queue t) (Ok tt)) (no t UnknownStreamId)
 
 release_model : (t : Table) (q : Queued) (a : List ℕ)
     → outcome (after_release t q).table a (replied (after_release t q).reply)
@@ -39,8 +36,8 @@ unfolding view
 release_model t q a = go q.made
   where
     go : (b : Bool)
-        → outcome (cond b (answer (with_queue q.queue t) Reply.Done) (no t UnknownStreamId)).table a
-        (replied (cond b (answer (with_queue q.queue t) Reply.Done) (no t UnknownStreamId)).reply)
+        → outcome (cond b (answer (with_queue q.queue t) (Ok tt)) (no t UnknownStreamId)).table a
+        (replied (cond b (answer (with_queue q.queue t) (Ok tt)) (no t UnknownStreamId)).reply)
         ≡ report.releasing (view t a) (cond b (some (sections_of q.queue)) none)
     go true = refl
     go false = refl
@@ -50,7 +47,7 @@ release_sound : (t : Table) (q : Queued) → Sound t → t.active ≡ false → 
     → sound (after_release t q).table ≡ true
 release_sound t q s off few live = go q.made
   where
-    go : (b : Bool) → sound (cond b (answer (with_queue q.queue t) Reply.Done) (no t UnknownStreamId)).table ≡ true
+    go : (b : Bool) → sound (cond b (answer (with_queue q.queue t) (Ok tt)) (no t UnknownStreamId)).table ≡ true
     go true =
         is_sound (with_queue q.queue t)
         (record {
@@ -80,27 +77,10 @@ release_keeps t stream r whole e =
         ≡ cond (releasing t.queue stream).made (some (sections_of (releasing t.queue stream).queue)) none
     in_model k a = released_is t.queue (facts t k).queued whole stream
 
--- a stream that has no section in the queue leaves the queue as it is
-pub unreleased : (q : Queue) (stream : ℕ) → (releasing q stream).made ≡ false → (releasing q stream).queue ≡ q
-unfolding releasing
-unreleased q stream h = go (leb q.queued queue_places) (ltb (oldest_of stream (take q.queued q.places)) q.queued) h
-  where
-    gone : Queue
-    gone = record { queued = q.queued - 1; places = closed_up no_section q.places q.queued (oldest_of stream (take q.queued q.places)) }
-
-    found : Bool → Queued
-    found b = cond b (record { made = true; queue = gone }) (record { made = false; queue = q })
-
-    go : (few b : Bool) → (cond few (found b) (record { made = false; queue = q })).made ≡ false
-        → (cond few (found b) (record { made = false; queue = q })).queue ≡ q
-    go true true h = let z : ◌≡◌ {A = ℕ} 0 1 = cc in absurd (omega arith)
-    go true false h = refl
-    go false b h = refl
-
 -- ---- an increment
 
 abbrev after_increment : Table → ℕ → Replied
-after_increment t n = cond (ltb largest_count (t.known + n)) (no t CountTooLarge) (answer (raised (t.known + n) t) Reply.Done)
+after_increment t n = cond (ltb largest_count (t.known + n)) (no t CountTooLarge) (answer (raised (t.known + n) t) (Ok tt))
 
 increment_model : (t : Table) (n : ℕ) (a : List ℕ) → Sound t → length t.waiting.values ≡ blocked_values
     → outcome (after_increment t n).table a (replied (after_increment t n).reply) ≡ report.counting (view t a) n
@@ -108,8 +88,8 @@ unfolding view
 increment_model t n a s long = go (ltb largest_count (t.known + n))
   where
     go : (b : Bool)
-        → outcome (cond b (no t CountTooLarge) (answer (raised (t.known + n) t) Reply.Done)).table a
-        (replied (cond b (no t CountTooLarge) (answer (raised (t.known + n) t) Reply.Done)).reply)
+        → outcome (cond b (no t CountTooLarge) (answer (raised (t.known + n) t) (Ok tt))).table a
+        (replied (cond b (no t CountTooLarge) (answer (raised (t.known + n) t) (Ok tt))).reply)
         ≡ report.counted b (view t a) n
     go true = refl
     go false = rw (let_go_is t.waiting s.waiting long (t.known + n))
@@ -119,7 +99,7 @@ increment_sound : (t : Table) (n : ℕ) → Sound t → t.active ≡ false → l
 increment_sound t n s off long = go (ltb largest_count (t.known + n)) refl
   where
     go : (b : Bool) → ltb largest_count (t.known + n) ≡ b
-        → sound (cond b (no t CountTooLarge) (answer (raised (t.known + n) t) Reply.Done)).table ≡ true
+        → sound (cond b (no t CountTooLarge) (answer (raised (t.known + n) t) (Ok tt))).table ≡ true
     go true e = is_sound t s
     go false e =
         is_sound (raised (t.known + n) t)
@@ -143,10 +123,9 @@ increment_keeps t n r long e =
 -- ---- which outcome it is, by the tests of the code
 
 module _ (t : Table) (stream : ℕ) where
-  pub release_refused : (k : Bool) (r : Reply) (why : Refusal) → k ≡ sound t → r ≡ Reply.Refused why → r ≡ admitted k t.active false
-      → answer t r ≡ release t stream
+  pub release_refused : (why : Refusal) → admitting t false ≡ Err why → no t why ≡ release t stream
   unfolding release
-  release_refused k r why h n e = closed_refused t k r h _ why n e
+  release_refused why e = closed_refused t (no t) _ why e
 
   module _ (k : sound t ≡ true) where
     module _ (off : t.active ≡ false) (q : Queued) (e : q ≡ releasing t.queue stream) where
@@ -155,20 +134,19 @@ module _ (t : Table) (stream : ℕ) where
       release_none m = sym (ap (λ (b : Bool). released b) m) ∙ ap (after_release t) e ∙ closed_step t _ k off
         where
           released : Bool → Replied
-          released b = cond b (answer (with_queue q.queue t) Reply.Done) (no t UnknownStreamId)
+          released b = cond b (answer (with_queue q.queue t) (Ok tt)) (no t UnknownStreamId)
 
-      pub release_done : q.made ≡ true → answer (with_queue q.queue t) Reply.Done ≡ release t stream
+      pub release_done : q.made ≡ true → answer (with_queue q.queue t) (Ok tt) ≡ release t stream
       unfolding release
       release_done m = sym (ap (λ (b : Bool). released b) m) ∙ ap (after_release t) e ∙ closed_step t _ k off
         where
           released : Bool → Replied
-          released b = cond b (answer (with_queue q.queue t) Reply.Done) (no t UnknownStreamId)
+          released b = cond b (answer (with_queue q.queue t) (Ok tt)) (no t UnknownStreamId)
 
 module _ (t : Table) (n : ℕ) where
-  pub increment_refused : (k : Bool) (r : Reply) (why : Refusal) → k ≡ sound t → r ≡ Reply.Refused why → r ≡ admitted k t.active false
-      → answer t r ≡ increment t n
+  pub increment_refused : (why : Refusal) → admitting t false ≡ Err why → no t why ≡ increment t n
   unfolding increment
-  increment_refused k r why h n e = closed_refused t k r h _ why n e
+  increment_refused why e = closed_refused t (no t) _ why e
 
   module _ (k : sound t ≡ true) where
     module _ (off : t.active ≡ false) where
@@ -177,11 +155,11 @@ module _ (t : Table) (n : ℕ) where
       increment_past h = sym (ap (λ (b : Bool). counts b) (lt-ltb _ _ h)) ∙ closed_step t _ k off
         where
           counts : Bool → Replied
-          counts b = cond b (no t CountTooLarge) (answer (raised (t.known + n) t) Reply.Done)
+          counts b = cond b (no t CountTooLarge) (answer (raised (t.known + n) t) (Ok tt))
 
-      pub increment_done : t.known + n ≤ largest_count → answer (raised (t.known + n) t) Reply.Done ≡ increment t n
+      pub increment_done : t.known + n ≤ largest_count → answer (raised (t.known + n) t) (Ok tt) ≡ increment t n
       unfolding increment
       increment_done h = sym (ap (λ (b : Bool). counts b) (le-ltb _ _ h)) ∙ closed_step t _ k off
         where
           counts : Bool → Replied
-          counts b = cond b (no t CountTooLarge) (answer (raised (t.known + n) t) Reply.Done)
+          counts b = cond b (no t CountTooLarge) (answer (raised (t.known + n) t) (Ok tt))

@@ -8,23 +8,21 @@ use native.Mathlib.Omega.{arith}
 use lib.Dec.{leb, ltb}
 use lib.ListN.{length}
 use borrow.Author.Tests.{le-leb, lt-leb, le-ltb, lt-ltb, ltb-true, ltb-false}
+use Rattle.std.specs.Prelude.{Ok, Err}
 use Rattle.answers.specs.Answer.{done}
 use Rattle.answers.specs.Table.{replied, ok}
 use Rattle.answers.specs.declared.Refusal.{Refusal}
 use Rattle.answers.specs.declared.Refusal.TheVariants.{TrackingFull, BadLargest}
-use Rattle.answers.specs.declared.Reply.{Reply}
 use Rattle.model.specs.Bounds.{queue_places, blocked_values, blocked_sections}
 use Rattle.model.specs.Section as section
 use Rattle.model.specs.Table as model
 use Rattle.ring.proofs.Keeping.{kept, count_fields}
-use Rattle.tracking.specs.Queue.{sections_of, pushing}
-use Rattle.blocked.specs.Waiting.{waiting_of, blocking, keeps_count}
-use Rattle.blocked.specs.declared.Counted.{Counted}
+use Rattle.tracking.specs.Queue.{sections_of, pushing, Queued}
+use Rattle.blocked.specs.Waiting.{waiting_of, blocking, keeps_count, Counted}
 use Rattle.tracking.specs.declared.Queue.{Queue}
-use Rattle.tracking.specs.declared.Queued.{Queued}
 use Rattle.blocked.proofs.Blocked.{blocking_is, blocking_keeps}
 use Rattle.tracking.proofs.Sections.{length_sections, pushed_made, pushed_sections, pushed_queued, pushed_live}
-use Rattle.dynamic.specs.Calls.{answer, no, admitted, with_section, committed, new_section, begin, abandon, commit, commit_place, queued_with, counted_with}
+use Rattle.dynamic.specs.Calls.{answer, no, admitting, with_section, committed, new_section, begin, abandon, commit, commit_place, queued_with, counted_with}
 use Rattle.dynamic.specs.Promise.{outcome, Keeps}
 use Rattle.dynamic.specs.Record.{uses_here, view, sound}
 use Rattle.dynamic.specs.declared.Replied.{Replied}
@@ -60,7 +58,7 @@ begun_sound t stream s =
 pub begin_keeps : (t : Table) (stream : ℕ) (r : Replied) → r ≡ begin t stream → Keeps t (begin t stream) r (λ m. section.begin m stream)
 unfolding begin section.begin view
 begin_keeps t stream r e =
-    keeps_closed t (answer (begun t stream) Reply.Done)
+    keeps_closed t (answer (begun t stream) (Ok tt))
     (λ m. record {
       next = section.with_open (some (record { stream = stream; base = length m.fields; uses = [] })) m;
       answer = done ok;
@@ -73,7 +71,7 @@ begin_keeps t stream r e =
 pub abandon_keeps : (t : Table) (r : Replied) → r ≡ abandon t → Keeps t (abandon t) r section.abandon
 unfolding abandon section.abandon view
 abandon_keeps t r e =
-    keeps_open t (answer (with_section false t.base t.section t) Reply.Done)
+    keeps_open t (answer (with_section false t.base t.section t) (Ok tt))
     (λ m o. record { next = section.with_open none m; answer = done ok })
     (λ k on a. refl)
     (λ k on. let s = facts t k in
@@ -173,7 +171,7 @@ place_sound t largest s on long whole = go (pushing t.queue t.section).made (cou
         }
 
     go : (b f : Bool)
-        → sound (cond b (cond f (answer next Reply.Done) (no t TrackingFull)) (no t TrackingFull)).table ≡ true
+        → sound (cond b (cond f (answer next (Ok tt)) (no t TrackingFull)) (no t TrackingFull)).table ≡ true
     go true true = is_sound next closes
     go true false = is_sound t s
     go false f = is_sound t s
@@ -229,30 +227,27 @@ module _ (t : Table) (largest : ℕ) (long : length t.waiting.values ≡ blocked
 -- ---- which outcome it is, by the tests of the code
 
 module _ (t : Table) (stream : ℕ) where
-  pub begin_refused : (k : Bool) (r : Reply) (why : Refusal) → k ≡ sound t → r ≡ Reply.Refused why → r ≡ admitted k t.active false
-      → answer t r ≡ begin t stream
+  pub begin_refused : (why : Refusal) → admitting t false ≡ Err why → no t why ≡ begin t stream
   unfolding begin
-  begin_refused k r why h n e = closed_refused t k r h _ why n e
+  begin_refused why e = closed_refused t (no t) _ why e
 
-  pub begin_done : sound t ≡ true → t.active ≡ false → answer (begun t stream) Reply.Done ≡ begin t stream
+  pub begin_done : sound t ≡ true → t.active ≡ false → answer (begun t stream) (Ok tt) ≡ begin t stream
   unfolding begin
   begin_done k off = closed_step t _ k off
 
 module _ (t : Table) where
-  pub abandon_refused : (k : Bool) (r : Reply) (why : Refusal) → k ≡ sound t → r ≡ Reply.Refused why → r ≡ admitted k t.active true
-      → answer t r ≡ abandon t
+  pub abandon_refused : (why : Refusal) → admitting t true ≡ Err why → no t why ≡ abandon t
   unfolding abandon
-  abandon_refused k r why h n e = open_refused t k r h _ why n e
+  abandon_refused why e = open_refused t (no t) _ why e
 
-  pub abandon_done : sound t ≡ true → t.active ≡ true → answer (with_section false t.base t.section t) Reply.Done ≡ abandon t
+  pub abandon_done : sound t ≡ true → t.active ≡ true → answer (with_section false t.base t.section t) (Ok tt) ≡ abandon t
   unfolding abandon
   abandon_done k on = open_step t _ k on
 
 module _ (t : Table) (largest : ℕ) where
-  pub commit_refused : (k : Bool) (r : Reply) (why : Refusal) → k ≡ sound t → r ≡ Reply.Refused why → r ≡ admitted k t.active true
-      → answer t r ≡ commit t largest
+  pub commit_refused : (why : Refusal) → admitting t true ≡ Err why → no t why ≡ commit t largest
   unfolding commit
-  commit_refused k r why h n e = open_refused t k r h _ why n e
+  commit_refused why e = open_refused t (no t) _ why e
 
   module _ (k : sound t ≡ true) where
     module _ (on : t.active ≡ true) where
@@ -287,12 +282,12 @@ module _ (t : Table) (largest : ℕ) where
               made b = cond b (queued_with t (counted_with t.waiting t.known largest) q.queue) (no t TrackingFull)
 
           fitting : Bool → Replied
-          fitting b = cond b (answer (committed q.queue w.waiting t) Reply.Done) (no t TrackingFull)
+          fitting b = cond b (answer (committed q.queue w.waiting t) (Ok tt)) (no t TrackingFull)
 
           pub commit_no_value : w.fits ≡ false → no t TrackingFull ≡ commit t largest
           unfolding fitting
           commit_no_value f = sym (ap (λ (b : Bool). fitting b) f) ∙ with_place
 
-          pub commit_done : w.fits ≡ true → answer (committed q.queue w.waiting t) Reply.Done ≡ commit t largest
+          pub commit_done : w.fits ≡ true → answer (committed q.queue w.waiting t) (Ok tt) ≡ commit t largest
           unfolding fitting
           commit_done f = sym (ap (λ (b : Bool). fitting b) f) ∙ with_place

@@ -1,4 +1,4 @@
--- What document 01 names of the abstract table, each as a law of the definitions that the calls are held to. Assumes nothing.
+-- What the specification names of the abstract table, each as a law of the definitions that the calls are held to. Assumes nothing.
 use mathlib.Core.Path.{◌≡◌, refl, sym, ap, subst, ◌∙◌}
 use mathlib.Core.Bool.{Bool, true, false, cond}
 use mathlib.Core.List.{List, [], ◌∷◌}
@@ -105,7 +105,7 @@ module _ (referenced : ℕ → Bool) (room : ℕ) where
       go w true = (0, refl)
       go w false = (suc w.0, rw (h a, w.1))
 
--- the computed number is the one that document 01 describes, and there is none where there is no such number
+-- the computed number is the one that the specification describes, and there is none where there is no such number
 module _ (t : Table) (room : ℕ) where
   not_referenced : (a : ℕ) → is_referenced t a ≡ false → references t a ≡ 0
   not_referenced a h = let z = ltb-false 0 (references t a) h in omega (arith, z)

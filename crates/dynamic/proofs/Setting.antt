@@ -7,22 +7,21 @@ use Prim.Native.Nat.{ℕ, ◌≤◌, ◌<◌}
 use native.Mathlib.Omega.{arith}
 use lib.Dec.{leb, ltb}
 use borrow.Author.Tests.{le-leb, lt-leb, leb-false, ltb-false}
+use Rattle.std.specs.Prelude.{Ok, Err}
 use Rattle.answers.specs.Answer.{done}
 use Rattle.answers.specs.Table.{Done, ok, replied}
 use Rattle.answers.specs.declared.Refusal.{Refusal}
 use Rattle.answers.specs.declared.Refusal.TheVariants.{MaximumTableSizeTooLarge, AboveLentRoom, MaxBlockedStreamsTooLarge, ShrinkBlocked, SectionOpen}
-use Rattle.answers.specs.declared.Reply.{Reply}
 use Rattle.arena.specs.Ring.{ring}
 use Rattle.entries.specs.Drop.{fewest}
 use Rattle.entries.proofs.Drop.{found_is_fewest}
 use Rattle.model.specs.Bounds.{blocked_sections, largest_capacity, lent_room}
 use Rattle.model.specs.Drop as drops
 use Rattle.model.specs.Table as model
-use Rattle.ring.specs.Ring.{live, free_below, cutting}
-use Rattle.ring.specs.declared.Cut.{Cut}
+use Rattle.ring.specs.Ring.{live, free_below, cutting, Cut}
 use Rattle.ring.proofs.Cutting.{cut_made, cut_stays, cut_shrunk}
 use Rattle.ring.proofs.Keeping.{Arrays}
-use Rattle.dynamic.specs.Calls.{with_most, with_ring, answer, no, cut_to, cut_unless, capacity_answer, set_capacity, set_most}
+use Rattle.dynamic.specs.Calls.{with_most, with_ring, answer, no, admitting, cut_to, cut_unless, capacity_answer, set_capacity, set_most}
 use Rattle.dynamic.specs.Promise.{outcome, Keeps}
 use Rattle.dynamic.specs.Record.{view, uses_here, sound, lowest_used}
 use Rattle.dynamic.specs.declared.Replied.{Replied}
@@ -30,6 +29,7 @@ use Rattle.dynamic.specs.declared.Table.{Table}
 use Rattle.dynamic.proofs.Free.{same_room, still_above}
 use Rattle.dynamic.proofs.Sound.{Sound, facts, is_sound}
 use Rattle.dynamic.proofs.Staying.{closed_stays}
+use Rattle.dynamic.proofs.Steps.{closed_refused}
 
 -- what an answer comes to in the model
 abbrev pub step_of : Replied → List ℕ → model.Step Done
@@ -43,7 +43,7 @@ open_by t on = cond on (some (record { stream = t.section.stream; base = t.base;
 
 module _ (t : Table) (m : ℕ) where
   abbrev most_by : Bool → Bool → Replied
-  most_by on over = cond on (no t SectionOpen) (cond over (no t MaxBlockedStreamsTooLarge) (answer (with_most m t) Reply.Done))
+  most_by on over = cond on (no t SectionOpen) (cond over (no t MaxBlockedStreamsTooLarge) (answer (with_most m t) (Ok tt)))
 
   most_model : sound t ≡ true → (a : List ℕ) → step_of (set_most t m) a ≡ drops.set_blocked_max (view t a) m
   unfolding set_most drops.set_blocked_max view
@@ -82,16 +82,24 @@ module _ (t : Table) (m : ℕ) where
   pub sets_most : {r : Replied} → r ≡ set_most t m → Keeps t (set_most t m) r (λ u. drops.set_blocked_max u m)
   sets_most e = record { next = e; model = λ h a. rw e (most_model h a); kept = λ h. rw e (most_kept h) }
 
+  pub most_refused : (why : Refusal) → admitting t false ≡ Err why → no t why ≡ set_most t m
+  unfolding set_most
+  most_refused why e = closed_refused t (no t) _ why e
+
   module _ (h : sound t ≡ true) (closed : t.active ≡ false) where
     pub most_over : blocked_sections ≤ m → no t MaxBlockedStreamsTooLarge ≡ set_most t m
     unfolding set_most
     most_over g = rw (h, closed, le-leb _ _ g)
 
-    pub most_set : m < blocked_sections → answer (with_most m t) Reply.Done ≡ set_most t m
+    pub most_set : m < blocked_sections → answer (with_most m t) (Ok tt) ≡ set_most t m
     unfolding set_most
     most_set g = rw (h, closed, lt-leb _ _ g)
 
 -- ---- the capacity
+
+pub size_refused : (t : Table) (c : ℕ) (why : Refusal) → admitting t false ≡ Err why → no t why ≡ set_capacity t c
+unfolding set_capacity
+size_refused t c why e = closed_refused t (no t) _ why e
 
 module _ (t : Table) (c : ℕ) (h : sound t ≡ true) (closed : t.active ≡ false) where
   pub capacity_refused : (w : Refusal) → some w ≡ capacity_answer c → no t w ≡ set_capacity t c
@@ -103,7 +111,7 @@ module _ (t : Table) (c : ℕ) (h : sound t ≡ true) (closed : t.active ≡ fal
     unfolding set_capacity
     capacity_blocked f = rw (h, ← g, ← e, f, closed)
 
-    pub capacity_cut : k.made ≡ true → answer (with_ring k.ring t) Reply.Done ≡ set_capacity t c
+    pub capacity_cut : k.made ≡ true → answer (with_ring k.ring t) (Ok tt) ≡ set_capacity t c
     unfolding set_capacity
     capacity_cut f = rw (h, ← g, ← e, f, closed)
 

@@ -1,21 +1,23 @@
 -- What every call does first: 22 for a record that breaks its rules, then 18 or 19; and the promise of a call from what it does after that.
 -- Assumes nothing.
 use mathlib.Core.Path.{◌≡◌, refl, sym, ap, ◌∙◌}
-use mathlib.Core.Bool.{Bool, true, false}
+use mathlib.Core.Bool.{Bool, true, false, cond, beq, ◌&&◌}
 use mathlib.Core.List.{List}
 use mathlib.Core.Option.{Option, some, none}
 use Prim.Native.Nat.{ℕ}
 use native.Mathlib.Omega.{arith}
+use Rattle.std.specs.Prelude.{Result, Ok, Err, Option as Maybe, Some, None, is_some}
+use Rattle.std.specs.Option.{ok_or}
 use Rattle.answers.specs.Table.{Done, replied}
+use Rattle.arena.specs.Ring.{long_enough}
 use Rattle.answers.specs.declared.Refusal.{Refusal}
 use Rattle.answers.specs.declared.Refusal.TheVariants.{SectionOpen, NoSection, BadCall}
-use Rattle.answers.specs.declared.Reply.{Reply}
 use Rattle.model.specs.Drop.{closed}
 use Rattle.model.specs.Section.{in_section}
 use Rattle.model.specs.Table as model
-use Rattle.dynamic.specs.Calls.{answer, no, admitted, when_closed, when_open}
+use Rattle.dynamic.specs.Calls.{no, admitting, admitting_with, when_closed, when_open}
 use Rattle.dynamic.specs.Promise.{outcome, Keeps}
-use Rattle.dynamic.specs.Record.{uses_here, view, sound}
+use Rattle.dynamic.specs.Record.{Checked, uses_here, view, sound, usable, lowest_used, checked, checking}
 use Rattle.dynamic.specs.declared.Replied.{Replied}
 use Rattle.dynamic.specs.declared.Table.{Table}
 
@@ -40,57 +42,189 @@ module _ (t : Table) (x : Replied) where
   pub open_step : sound t ≡ true → t.active ≡ true → x ≡ when_open t x
   open_step h a = rw (h, a)
 
--- ---- the same, from the reply that `admitted` gives
+-- ---- the same, from what `admitted` answers
 
--- a reply that is done is none that refuses
-abbrev pub kind : Reply → ℕ
-kind Reply.Done = 0
-kind (Reply.Refused r) = 1
+-- an answer that is done is none that refuses
+abbrev kind : Result ℕ Refusal → ℕ
+kind (Ok low) = 0
+kind (Err r) = 1
 
-pub clash : {A : Type 0} → ◌≡◌ {A = ℕ} 0 1 → A
+clash : {A : Type 0} → ◌≡◌ {A = ℕ} 0 1 → A
 clash z = absurd (omega (arith, z))
 
-module _ (r : Reply) (d : r ≡ Reply.Done) where
-  pub closed_admitted : (k on : Bool) → r ≡ admitted k on false → (k ≡ true) × (on ≡ false)
-  closed_admitted k on e = go k on (ap kind (sym d ∙ e))
+-- what an option that is turned into a result was
+module _ {A : Type 0} (o : Maybe A) (e : Refusal) (r : Result A Refusal) (told : r ≡ ok_or o e) where
+  pub or_ok : (x : A) → r ≡ Ok x → o ≡ Some x
+  or_ok x h = go o (sym told ∙ h)
     where
-      go : (k on : Bool) → 0 ≡ kind (admitted k on false) → (k ≡ true) × (on ≡ false)
-      go true true z = clash z
-      go true false z = (refl, refl)
-      go false on z = clash z
+      go : (o : Maybe A) → ok_or o e ≡ Ok x → o ≡ Some x
+      go (Some y) h = cc
+      go None h = let z : ◌≡◌ {A = ℕ} 0 1 = cc in absurd (omega arith)
 
-  pub open_admitted : (k on : Bool) → r ≡ admitted k on true → (k ≡ true) × (on ≡ true)
-  open_admitted k on e = go k on (ap kind (sym d ∙ e))
+  pub or_err : (w : Refusal) → r ≡ Err w → (o ≡ None) × (w ≡ e)
+  or_err w h = go o (sym told ∙ h)
     where
-      go : (k on : Bool) → 0 ≡ kind (admitted k on true) → (k ≡ true) × (on ≡ true)
-      go true true z = (refl, refl)
-      go true false z = clash z
-      go false on z = clash z
+      go : (o : Maybe A) → ok_or o e ≡ Err w → (o ≡ None) × (w ≡ e)
+      go (Some y) h = let z : ◌≡◌ {A = ℕ} 0 1 = cc in absurd (omega arith)
+      go None h = (refl, cc)
 
--- r: the reply; k: whether the record was found sound
-module _ (t : Table) (k : Bool) (r : Reply) (told : k ≡ sound t) where
-  pub closed_passed : r ≡ admitted k t.active false → r ≡ Reply.Done → (sound t ≡ true) × (t.active ≡ false)
-  closed_passed e d = let p = closed_admitted r d k t.active e in (sym told ∙ p.0, p.1)
+-- ---- what `admitted` answers, by its tests
 
-  pub open_passed : r ≡ admitted k t.active true → r ≡ Reply.Done → (sound t ≡ true) × (t.active ≡ true)
-  open_passed e d = let p = open_admitted r d k t.active e in (sym told ∙ p.0, p.1)
+module _ (t : Table) (x : Maybe ℕ) (told : checked x ≡ checking t) where
+  pub unsound : x ≡ None → sound t ≡ false
+  unfolding checking
+  unsound e = go (sound t) (rw e at told)
+    where
+      go : (k : Bool)
+          → ◌≡◌ {A = Checked} (record { sound = false; low = 0 })
+          (cond k (record { sound = true; low = lowest_used t }) (record { sound = false; low = 0 }))
+          → k ≡ false
+      go true h = ap (λ (c : Checked). c.sound) (sym h)
+      go false h = refl
 
-  module _ (x : Replied) (why : Refusal) (no-pass : r ≡ Reply.Refused why) where
-    pub closed_refused : r ≡ admitted k t.active false → answer t r ≡ when_closed t x
-    closed_refused e = go k t.active told refl e (ap kind (sym no-pass ∙ e))
+  pub none_broken : is_some x ≡ false → sound t ≡ false
+  none_broken h = go x refl h
+    where
+      go : (y : Maybe ℕ) → x ≡ y → is_some y ≡ false → sound t ≡ false
+      go (Some low) e h = let z : ◌≡◌ {A = ℕ} 0 1 = cc in absurd (omega arith)
+      go None e h = unsound e
+
+  pub broken : (w : Bool) → x ≡ None → Err BadCall ≡ admitting t w
+  broken w e = rw (unsound e)
+
+  module _ (low : ℕ) (e : x ≡ Some low) where
+    kept : (sound t ≡ true) × (low ≡ lowest_used t)
+    unfolding checking
+    kept = go (sound t) (rw e at told)
       where
-        go : (k on : Bool) → k ≡ sound t → t.active ≡ on → r ≡ admitted k on false → 1 ≡ kind (admitted k on false) → answer t r ≡ when_closed t x
-        go true true h a e z = ap (answer t) e ∙ closed_open t x (sym h) a
-        go true false h a e z = clash (sym z)
-        go false on h a e z = ap (answer t) e ∙ closed_broken t x (sym h)
+        go : (k : Bool)
+            → ◌≡◌ {A = Checked} (record { sound = true; low = low })
+            (cond k (record { sound = true; low = lowest_used t }) (record { sound = false; low = 0 }))
+            → (k ≡ true) × (low ≡ lowest_used t)
+        go true h = (refl, ap (λ (c : Checked). c.low) h)
+        go false h = let z : ◌≡◌ {A = Bool} true false = ap (λ (c : Checked). c.sound) h in let y : ◌≡◌ {A = ℕ} 0 1 = cc in absurd (omega arith)
 
-    pub open_refused : r ≡ admitted k t.active true → answer t r ≡ when_open t x
-    open_refused e = go k t.active told refl e (ap kind (sym no-pass ∙ e))
+    pub kept_rules : sound t ≡ true
+    kept_rules = kept.0
+
+    pub kept_lowest : low ≡ lowest_used t
+    kept_lowest = kept.1
+
+    pub as_wanted : (w : Bool) → beq t.active w ≡ true → Ok low ≡ admitting t w
+    as_wanted w h = rw (kept.0, ← kept.1) (go t.active w h)
       where
-        go : (k on : Bool) → k ≡ sound t → t.active ≡ on → r ≡ admitted k on true → 1 ≡ kind (admitted k on true) → answer t r ≡ when_open t x
-        go true true h a e z = clash (sym z)
-        go true false h a e z = ap (answer t) e ∙ open_closed t x (sym h) a
-        go false on h a e z = ap (answer t) e ∙ open_broken t x (sym h)
+        go : (on w : Bool) → beq on w ≡ true → Ok low ≡ cond on (cond w (Ok low) (Err SectionOpen)) (cond w (Err NoSection) (Ok low))
+        go true true h = refl
+        go true false h = let z : ◌≡◌ {A = ℕ} 0 1 = cc in absurd (omega arith)
+        go false true h = let z : ◌≡◌ {A = ℕ} 0 1 = cc in absurd (omega arith)
+        go false false h = refl
+
+    by : Bool → Bool → Result ℕ Refusal
+    by on w = cond on (cond w (Ok low) (Err SectionOpen)) (cond w (Err NoSection) (Ok low))
+
+    admitting_is : (w : Bool) → by t.active w ≡ admitting t w
+    unfolding by
+    admitting_is w = rw (kept.0, ← kept.1)
+
+    pub is_open : (w : Bool) → beq t.active w ≡ false → t.active ≡ true → Err SectionOpen ≡ admitting t w
+    unfolding by
+    is_open w h on = go t.active w h on ∙ admitting_is w
+      where
+        go : (on w : Bool) → beq on w ≡ false → on ≡ true → Err SectionOpen ≡ by on w
+        go true true h o = let z : ◌≡◌ {A = ℕ} 0 1 = cc in absurd (omega arith)
+        go true false h o = refl
+        go false w h o = let z : ◌≡◌ {A = ℕ} 0 1 = cc in absurd (omega arith)
+
+    pub is_closed : (w : Bool) → beq t.active w ≡ false → t.active ≡ false → Err NoSection ≡ admitting t w
+    unfolding by
+    is_closed w h off = go t.active w h off ∙ admitting_is w
+      where
+        go : (on w : Bool) → beq on w ≡ false → on ≡ false → Err NoSection ≡ by on w
+        go true w h o = let z : ◌≡◌ {A = ℕ} 0 1 = cc in absurd (omega arith)
+        go false true h o = refl
+        go false false h o = let z : ◌≡◌ {A = ℕ} 0 1 = cc in absurd (omega arith)
+
+pub some_sound : (t : Table) (x : Maybe ℕ) → checked x ≡ checking t → is_some x ≡ true → sound t ≡ true
+some_sound t (Some low) told h = kept_rules t (Some low) told low refl
+some_sound t None told h = let z : ◌≡◌ {A = ℕ} 0 1 = cc in absurd (omega arith)
+
+-- ---- what a call knows from it
+
+-- what is known where a call goes on
+pub record Admitted (t : Table) (w : Bool) (low : ℕ) : Type 0 where
+  pub rules : sound t ≡ true
+  pub active : t.active ≡ w
+  pub lowest : low ≡ lowest_used t
+
+module _ (t : Table) where
+  ok_is : (m low : ℕ) → ◌≡◌ {A = Result ℕ Refusal} (Ok m) (Ok low) → low ≡ m
+  ok_is m low e = cc
+
+  pub admitted_ok : (w : Bool) (low : ℕ) → admitting t w ≡ Ok low → Admitted t w low
+  admitted_ok w low e = go (sound t) refl t.active refl w e
+    where
+      go : (k : Bool) → sound t ≡ k → (on : Bool) → t.active ≡ on → (w : Bool)
+          → cond k (cond on (cond w (Ok (lowest_used t)) (Err SectionOpen)) (cond w (Err NoSection) (Ok (lowest_used t)))) (Err BadCall) ≡ Ok low
+          → Admitted t w low
+      go true h true o true e = record { rules = h; active = o; lowest = ok_is (lowest_used t) low e }
+      go true h false o false e = record { rules = h; active = o; lowest = ok_is (lowest_used t) low e }
+      go true h true o false e = clash (sym (ap kind e))
+      go true h false o true e = clash (sym (ap kind e))
+      go false h on o w e = clash (sym (ap kind e))
+
+  pub admitted_with_ok : (a : List ℕ) (w : Bool) (low : ℕ) → admitting_with t a w ≡ Ok low → (long_enough a ≡ true) × Admitted t w low
+  admitted_with_ok a w low e = go (long_enough a) refl e
+    where
+      go : (b : Bool) → long_enough a ≡ b → cond b (admitting t w) (Err BadCall) ≡ Ok low → (long_enough a ≡ true) × Admitted t w low
+      go true h e = (h, admitted_ok w low e)
+      go false h e = clash (sym (ap kind e))
+
+  -- a refusal, put into what a call answers: f is the call's answer for one
+  module _ {A : Type 0} (f : Refusal → A) (x : A) (why : Refusal) where
+    abbrev refusal : Result ℕ Refusal → Refusal
+    refusal (Ok low) = why
+    refusal (Err r) = r
+
+    pub closed_refused : admitting t false ≡ Err why → f why ≡ cond (sound t) (cond t.active (f SectionOpen) x) (f BadCall)
+    closed_refused e = go (sound t) t.active e
+      where
+        go : (k on : Bool) → cond k (cond on (Err SectionOpen) (Ok (lowest_used t))) (Err BadCall) ≡ Err why
+            → f why ≡ cond k (cond on (f SectionOpen) x) (f BadCall)
+        go true true e = ap f (sym (ap refusal e))
+        go true false e = clash (ap kind e)
+        go false on e = ap f (sym (ap refusal e))
+
+    pub open_refused : admitting t true ≡ Err why → f why ≡ cond (sound t) (cond t.active x (f NoSection)) (f BadCall)
+    open_refused e = go (sound t) t.active e
+      where
+        go : (k on : Bool) → cond k (cond on (Ok (lowest_used t)) (Err NoSection)) (Err BadCall) ≡ Err why
+            → f why ≡ cond k (cond on x (f NoSection)) (f BadCall)
+        go true true e = clash (ap kind e)
+        go true false e = ap f (sym (ap refusal e))
+        go false on e = ap f (sym (ap refusal e))
+
+    module _ (a : List ℕ) where
+      pub closed_with_refused : admitting_with t a false ≡ Err why → f why ≡ cond (usable t a) (cond t.active (f SectionOpen) x) (f BadCall)
+      closed_with_refused e = go (sound t) (long_enough a) t.active e
+        where
+          go : (k l on : Bool) → cond l (cond k (cond on (Err SectionOpen) (Ok (lowest_used t))) (Err BadCall)) (Err BadCall) ≡ Err why
+              → f why ≡ cond (k && l) (cond on (f SectionOpen) x) (f BadCall)
+          go true true true e = ap f (sym (ap refusal e))
+          go true true false e = clash (ap kind e)
+          go true false on e = ap f (sym (ap refusal e))
+          go false true on e = ap f (sym (ap refusal e))
+          go false false on e = ap f (sym (ap refusal e))
+
+      pub open_with_refused : admitting_with t a true ≡ Err why → f why ≡ cond (usable t a) (cond t.active x (f NoSection)) (f BadCall)
+      open_with_refused e = go (sound t) (long_enough a) t.active e
+        where
+          go : (k l on : Bool) → cond l (cond k (cond on (Ok (lowest_used t)) (Err NoSection)) (Err BadCall)) (Err BadCall) ≡ Err why
+              → f why ≡ cond (k && l) (cond on x (f NoSection)) (f BadCall)
+          go true true true e = clash (ap kind e)
+          go true true false e = ap f (sym (ap refusal e))
+          go true false on e = ap f (sym (ap refusal e))
+          go false true on e = ap f (sym (ap refusal e))
+          go false false on e = ap f (sym (ap refusal e))
 
 -- ---- the promise
 

@@ -5,11 +5,10 @@ use mathlib.Core.List.{List, [], ◌∷◌}
 use mathlib.Core.Option.{Option, some, none}
 use Prim.Native.Nat.{ℕ}
 use lib.ListN.{length}
-use Rattle.answers.specs.Answer.{done}
-use Rattle.answers.specs.Table.{inserted}
-use Rattle.answers.specs.declared.Find.{Find}
-use Rattle.answers.specs.declared.Find.TheVariants.{Found}
-use Rattle.answers.specs.declared.Insert.{Insert}
+use Rattle.std.specs.Prelude.{Result, Ok, Err}
+use Rattle.answers.specs.declared.Lookup.{Lookup}
+use Rattle.answers.specs.declared.Refusal.{Refusal}
+use Rattle.answers.specs.Answer.{answered, done}
 use Rattle.answers.specs.declared.Insertion.{Insertion}
 use Rattle.answers.specs.declared.Insertion.TheVariants.{NotInserted}
 use Rattle.answers.specs.declared.Lookup.TheVariants.{Static}
@@ -23,7 +22,7 @@ use Rattle.model.specs.Section as sections
 use Rattle.model.specs.Table.{Step}
 use Rattle.ring.specs.Ring.{fields_of}
 use Rattle.static_table.specs.Static.{lowest_name}
-use Rattle.tracking.specs.declared.Noted.{Noted}
+use Rattle.tracking.specs.Uses.{Noted}
 use Rattle.dynamic.specs.Calls.{latest_of, noted_in, with_uses, with_noted, looked, found_at, inserting, not_made, name_at, not_inserted}
 use Rattle.dynamic.specs.Promise.{outcome}
 use Rattle.dynamic.specs.Record.{uses_here, view, sound}
@@ -37,9 +36,9 @@ use Rattle.dynamic.proofs.Finding.{open_here}
 -- ---- the answer by the searches
 
 -- the insert that a search stands for, where no entry is made
-abbrev pub insert_of : Find → Insert
-insert_of (Found l) = Insert.Insertion (NotInserted l)
-insert_of (Find.Refused w) = Insert.Refused w
+abbrev pub insert_of : Result Lookup Refusal → Result Insertion Refusal
+insert_of (Ok l) = Ok (NotInserted l)
+insert_of (Err w) = Err w
 
 abbrev pub named_by : Looked → Inserting
 named_by x = inserting x.table (insert_of x.found)
@@ -54,8 +53,8 @@ module _ (t : Table) (a n v : List ℕ) where
   named_at (some k) = go (noted_in t.section (entry_at t k)) (noted_in t.section (entry_at t k)).fits
     where
       go : (r : Noted) (b : Bool)
-          → named_by (cond b (looked (with_noted r t) (Found (sections.lookup_of t.base (entry_at t k)))) (looked t (Find.Refused TrackingFull)))
-          ≡ cond b (not_made (with_noted r t) (sections.lookup_of t.base (entry_at t k))) (inserting t (Insert.Refused TrackingFull))
+          → named_by (cond b (looked (with_noted r t) (Ok (sections.lookup_of t.base (entry_at t k)))) (looked t (Err TrackingFull)))
+          ≡ cond b (not_made (with_noted r t) (sections.lookup_of t.base (entry_at t k))) (inserting t (Err TrackingFull))
       go r true = refl
       go r false = refl
 
@@ -71,7 +70,7 @@ last_name n v (f ∷ l) = rw (last_name n v l, matches_name n v f)
 
 -- what is promised of an answer that makes no entry
 pub record Unmade (t : Table) (a : List ℕ) (r : Inserting) (s : Step Insertion) : Type 0 where
-  pub model : outcome r.table a (inserted r.inserted) ≡ s
+  pub model : outcome r.table a (answered r.inserted) ≡ s
   pub kept : sound r.table ≡ true
   pub ring : r.table.ring ≡ t.ring
 
@@ -86,7 +85,7 @@ module _ (t : Table) (a n v : List ℕ) (rules : sound t ≡ true) (active : t.a
     where
       go : (r : Noted) (b : Bool) → sound (with_noted r t) ≡ true
           → Unmade t a
-          (cond b (not_made (with_noted r t) (sections.lookup_of t.base (entry_at t k))) (inserting t (Insert.Refused TrackingFull)))
+          (cond b (not_made (with_noted r t) (sections.lookup_of t.base (entry_at t k))) (inserting t (Err TrackingFull)))
           (sections.refer_to (view t a) (open_here t) (cond b (some (uses_here (with_uses t.section r))) none)
           (NotInserted (sections.lookup_of t.base (entry_at t k))))
       go r true s = record { model = rw active; kept = s; ring = refl }

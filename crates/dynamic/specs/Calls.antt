@@ -1,35 +1,29 @@
 -- What each call does to the record, to the last field, and what it answers.
-use Rattle.std.specs.Prelude.{Bool, true, false, cond, List, map, ◌++◌, ◌≡◌, ℕ, ◌+◌, ◌-◌, ◌<◌, leb, ltb, length, replicate}
+use Rattle.std.specs.Prelude.{Result, Ok, Err, Option as Maybe, Some, None, Bool, true, false, cond, List, map, ◌++◌, ◌≡◌, ℕ, ◌+◌, ◌-◌, ◌<◌, leb, ltb, length, replicate}
 use Rattle.std.proofs.Math.Option.{Option, some, none}
-use Rattle.answers.specs.declared.Find.{Find}
-use Rattle.answers.specs.declared.Find.TheVariants.{Found}
-use Rattle.answers.specs.declared.Insert.{Insert}
+use Rattle.answers.specs.declared.Insertion.{Insertion}
 use Rattle.answers.specs.declared.Insertion.TheVariants.{NotInserted}
 use Rattle.answers.specs.declared.Lookup.{Lookup}
 use Rattle.answers.specs.declared.Lookup.TheVariants.{Static, NotFound}
 use Rattle.answers.specs.declared.Refusal.{Refusal}
 use Rattle.answers.specs.declared.Refusal.TheVariants.{MaxBlockedStreamsTooLarge, UnknownStreamId, ShrinkBlocked, SectionOpen, NoSection, TrackingFull, BadLargest, BadCall, CountTooLarge}
-use Rattle.answers.specs.declared.Reply.{Reply}
-use Rattle.arena.specs.Ring.{ring_write}
+use Rattle.arena.specs.Ring.{ring_write, long_enough}
 use Rattle.entries.specs.Entry.{slots, between, field_of}
 use Rattle.entries.specs.Latest.{last_of, matches}
 use Rattle.entries.specs.declared.Room.{Room}
 use Rattle.model.specs.Bounds.{section_entries, queue_places, blocked_values, blocked_sections}
 use Rattle.model.specs.Insert.{Origin, equal_entry, static_name, named_entry, plain, or_else, insertion_of}
 use Rattle.model.specs.Section.{lookup_of}
-use Rattle.ring.specs.Ring.{largest_count, fields_of, room_for, pushing, cutting}
-use Rattle.ring.specs.declared.Cut.{Cut}
+use Rattle.ring.specs.Ring.{Cut, largest_count, fields_of, room_for, pushing, cutting}
 use Rattle.ring.specs.declared.Pushed.{Pushed}
 use Rattle.ring.specs.declared.Ring.{Ring}
 use Rattle.ring.specs.declared.Source.TheVariants.{Given}
 use Rattle.static_table.specs.Static.{lowest_name}
-use Rattle.tracking.specs.Queue.{no_section, pushing as queueing, releasing}
-use Rattle.tracking.specs.Uses.{no_held, noting}
-use Rattle.blocked.specs.Waiting.{no_value, let_go}
-use Rattle.blocked.specs.declared.Counted.{Counted}
-use Rattle.tracking.specs.declared.Noted.{Noted}
+use Rattle.tracking.specs.Queue.{Queued, no_section, pushing as queueing, releasing}
+use Rattle.tracking.specs.declared.Uses.{Uses}
+use Rattle.tracking.specs.Uses.{Noted, no_held, noting}
+use Rattle.blocked.specs.Waiting.{Counted, no_value, let_go}
 use Rattle.tracking.specs.declared.Queue.{Queue}
-use Rattle.tracking.specs.declared.Queued.{Queued}
 use Rattle.tracking.specs.declared.Section.{Section}
 use Rattle.blocked.specs.declared.Waiting.{Waiting}
 use Rattle.dynamic.specs.declared.Inserting.{Inserting}
@@ -129,59 +123,27 @@ raised k t =
       section = t.section;
     }
 
--- what a record has beside its entries, its base and its section
-pub record Rest : Type 0 where
-  pub known : ℕ
-  pub most : ℕ
-  pub waiting : Waiting
-  pub queue : Queue
-  pub active : Bool
-
-abbrev pub table_of : Ring → ℕ → Section → Rest → Table
-table_of r b s o =
-    record {
-      ring = r;
-      known = o.known;
-      most = o.most;
-      waiting = o.waiting;
-      queue = o.queue;
-      active = o.active;
-      base = b;
-      section = s;
-    }
-
--- what a record has beside them
-abbrev pub rest_of : Table → Rest
-rest_of t = record { known = t.known; most = t.most; waiting = t.waiting; queue = t.queue; active = t.active }
-
--- the entries, the base and the section of a record that keeps its rules and has a section open
-pub record Opens (r : Ring) (b : ℕ) (s : Section) : Type 0 where
-  pub rest : Rest
-  pub rules : sound (table_of r b s rest) ≡ true
-  pub active : rest.active ≡ true
-
--- and the lowest entry that its sections use
-pub record OpensAbove (r : Ring) (b : ℕ) (s : Section) (low : ℕ) : Type 0 where
-  pub opens : Opens r b s
-  pub lowest : low ≡ lowest_used (table_of r b s opens.rest)
-
-abbrev pub answer : Table → Reply → Replied
+abbrev pub answer : Table → Result Unit Refusal → Replied
 answer t r = record { table = t; reply = r }
 
 abbrev pub no : Table → Refusal → Replied
-no t r = record { table = t; reply = Reply.Refused r }
+no t r = record { table = t; reply = Err r }
 
 -- ---- 22 first, and then 18 or 19
 
 abbrev pub when_sound : Table → Replied → Replied
 when_sound t r = cond (sound t) r (no t BadCall)
 
--- 22 first, then 18 or 19; w: whether the call needs an open section
-abbrev pub admitted : Bool → Bool → Bool → Reply
-admitted k on w =
-    cond k
-    (cond on (cond w Reply.Done (Reply.Refused SectionOpen)) (cond w (Reply.Refused NoSection) Reply.Done))
-    (Reply.Refused BadCall)
+-- 22 first, then 18 or 19, and else the lowest entry that a section uses; w: whether the call needs an open section
+abbrev pub admitting : Table → Bool → Result ℕ Refusal
+admitting t w =
+    cond (sound t)
+    (cond t.active (cond w (Ok (lowest_used t)) (Err SectionOpen)) (cond w (Err NoSection) (Ok (lowest_used t))))
+    (Err BadCall)
+
+-- with an arena, which is to be long enough
+abbrev pub admitting_with : Table → List ℕ → Bool → Result ℕ Refusal
+admitting_with t a w = cond (long_enough a) (admitting t w) (Err BadCall)
 
 abbrev pub when_closed : Table → Replied → Replied
 when_closed t r = when_sound t (cond t.active (no t SectionOpen) r)
@@ -216,7 +178,7 @@ fresh_table =
     }
 
 abbrev pub cut_to : Table → Cut → Replied
-cut_to t k = cond k.made (answer (with_ring k.ring t) Reply.Done) (no t ShrinkBlocked)
+cut_to t k = cond k.made (answer (with_ring k.ring t) (Ok tt)) (no t ShrinkBlocked)
 
 abbrev pub cut_unless : Table → ℕ → Option Refusal → Replied
 cut_unless t c (some r) = no t r
@@ -226,7 +188,7 @@ unfoldable pub set_capacity : Table → ℕ → Replied
 set_capacity t c = when_closed t (cut_unless t c (capacity_answer c))
 
 unfoldable pub set_most : Table → ℕ → Replied
-set_most t m = when_closed t (cond (leb blocked_sections m) (no t MaxBlockedStreamsTooLarge) (answer (with_most m t) Reply.Done))
+set_most t m = when_closed t (cond (leb blocked_sections m) (no t MaxBlockedStreamsTooLarge) (answer (with_most m t) (Ok tt)))
 
 abbrev pub put_by : Table → Pushed → Replied
 put_by t p = answer (with_ring p.ring t) (push_reply t.ring.capacity p.push)
@@ -243,13 +205,13 @@ abbrev pub new_section : Table → ℕ → Section
 new_section t stream = record { stream = stream; from = t.ring.dropped; used = 0; uses = replicate section_entries no_held }
 
 unfoldable pub begin : Table → ℕ → Replied
-begin t stream = when_closed t (answer (with_section true (t.ring.inserted - t.ring.dropped) (new_section t stream) t) Reply.Done)
+begin t stream = when_closed t (answer (with_section true (t.ring.inserted - t.ring.dropped) (new_section t stream) t) (Ok tt))
 
 unfoldable pub abandon : Table → Replied
-abandon t = when_open t (answer (with_section false t.base t.section t) Reply.Done)
+abandon t = when_open t (answer (with_section false t.base t.section t) (Ok tt))
 
 abbrev pub queued_with : Table → Counted → Queue → Replied
-queued_with t w q = cond w.fits (answer (committed q w.waiting t) Reply.Done) (no t TrackingFull)
+queued_with t w q = cond w.fits (answer (committed q w.waiting t) (Ok tt)) (no t TrackingFull)
 
 abbrev pub commit_place : Table → ℕ → Queued → Replied
 commit_place t largest q =
@@ -270,32 +232,32 @@ with_noted r t = with_section t.active t.base (with_uses t.section r) t
 abbrev pub latest_of : Table → List ℕ → List ℕ → List ℕ → Bool → Option ℕ
 latest_of t a n v whole = last_of (matches n v whole) (fields_of t.ring a)
 
-abbrev pub looked : Table → Find → Looked
+abbrev pub looked : Table → Result Lookup Refusal → Looked
 looked t f = record { table = t; found = f }
 
 abbrev pub refer_to : Table → ℕ → Noted → Looked
-refer_to t x r = cond r.fits (looked (with_noted r t) (Found (lookup_of t.base x))) (looked t (Find.Refused TrackingFull))
+refer_to t x r = cond r.fits (looked (with_noted r t) (Ok (lookup_of t.base x))) (looked t (Err TrackingFull))
 
 abbrev pub found_at : Table → Option ℕ → Looked
-found_at t none = looked t (Found NotFound)
+found_at t none = looked t (Ok NotFound)
 found_at t (some k) = refer_to t (t.ring.dropped + k + 1) (noted_in t.section (t.ring.dropped + k + 1))
 
 unfoldable pub find : Table → List ℕ → List ℕ → List ℕ → Looked
 find t a n v =
     cond (usable t a)
-    (cond t.active (found_at t (latest_of t a n v true)) (looked t (Find.Refused NoSection)))
-    (looked t (Find.Refused BadCall))
+    (cond t.active (found_at t (latest_of t a n v true)) (looked t (Err NoSection)))
+    (looked t (Err BadCall))
 
 -- ---- the insert of a section
 
-abbrev pub inserting : Table → Insert → Inserting
+abbrev pub inserting : Table → Result Insertion Refusal → Inserting
 inserting t i = record { table = t; inserted = i }
 
 abbrev pub not_made : Table → Lookup → Inserting
-not_made t l = inserting t (Insert.Insertion (NotInserted l))
+not_made t l = inserting t (Ok (NotInserted l))
 
 abbrev pub name_to : Table → ℕ → Noted → Inserting
-name_to t x r = cond r.fits (not_made (with_noted r t) (lookup_of t.base x)) (inserting t (Insert.Refused TrackingFull))
+name_to t x r = cond r.fits (not_made (with_noted r t) (lookup_of t.base x)) (inserting t (Err TrackingFull))
 
 abbrev pub name_at : Table → Option ℕ → Inserting
 name_at t none = not_made t NotFound
@@ -343,13 +305,18 @@ noted_for s a (static_name i) = noted_in s a
 noted_for s a (named_entry x) = note_also s x (noted_in s a)
 noted_for s a plain = noted_in s a
 
+-- uses that fit, as a section's; where they do not fit there are none
+abbrev pub Fitted : Maybe Uses → Noted → Type 0
+Fitted None r = r.fits ≡ false
+Fitted (Some u) r = r ≡ record { fits = true; used = u.used; uses = u.uses }
+
 abbrev pub inserted_with : Table → Pushed → Origin → Noted → Inserting
 inserted_with t p w u =
     cond u.fits
     (cond (ltb t.ring.inserted largest_count)
-    (inserting (with_noted u (with_ring p.ring t)) (Insert.Insertion (insertion_of t.base (t.ring.inserted + 1) w)))
-    (inserting t (Insert.Refused CountTooLarge)))
-    (inserting t (Insert.Refused TrackingFull))
+    (inserting (with_noted u (with_ring p.ring t)) (Ok (insertion_of t.base (t.ring.inserted + 1) w)))
+    (inserting t (Err CountTooLarge)))
+    (inserting t (Err TrackingFull))
 
 unfoldable pub made : Table → Room → List ℕ → List ℕ → List ℕ → Inserting
 made t r a n v =
@@ -365,31 +332,15 @@ insert_open t a n v =
     (not_inserted t a n v)
     (made_or t (room_for t.ring (lowest_used t) (length n) (length v)) a n v)
 
--- a room that was made for a field, in a table whose sections use no entry below low
-pub record RoomOf (t : Table) (low : ℕ) (r : Room) (n v : List ℕ) : Type 0 where
-  pub lowest : low ≡ lowest_used t
-  pub room : r ≡ room_for t.ring low (length n) (length v)
-  pub made : r.made ≡ true
-
--- and the room that was made for a field in it
-pub record OpensFor (r : Ring) (b : ℕ) (s : Section) (low : ℕ) (m : Room) (n v : List ℕ) : Type 0 where
-  pub opens : Opens r b s
-  pub room : RoomOf (table_of r b s opens.rest) low m n v
-
 -- the arena after a call that may insert: the new entry's strings stand at the head
 abbrev pub bytes_after : Table → Table → List ℕ → List ℕ → List ℕ → List ℕ
 bytes_after t u a n v = cond (ltb t.ring.inserted u.ring.inserted) (ring_write a t.ring.head (n ++ v)) a
 
--- an insert, by what the call is admitted with
-abbrev pub insert_first : Reply → Table → List ℕ → List ℕ → List ℕ → Inserting
-insert_first (Reply.Refused w) t a n v = inserting t (Insert.Refused w)
-insert_first Reply.Done t a n v = insert_open t a n v
-
 unfoldable pub insert : Table → List ℕ → List ℕ → List ℕ → Inserting
 insert t a n v =
     cond (usable t a)
-    (cond t.active (insert_open t a n v) (inserting t (Insert.Refused NoSection)))
-    (inserting t (Insert.Refused BadCall))
+    (cond t.active (insert_open t a n v) (inserting t (Err NoSection)))
+    (inserting t (Err BadCall))
 
 -- ---- reports
 
@@ -397,10 +348,10 @@ unfoldable pub release : Table → ℕ → Replied
 release t stream =
     when_closed t
     (cond (releasing t.queue stream).made
-    (answer (with_queue (releasing t.queue stream).queue t) Reply.Done)
+    (answer (with_queue (releasing t.queue stream).queue t) (Ok tt))
     (no t UnknownStreamId))
 
 unfoldable pub increment : Table → ℕ → Replied
 increment t n =
     when_closed t
-    (cond (ltb largest_count (t.known + n)) (no t CountTooLarge) (answer (raised (t.known + n) t) Reply.Done))
+    (cond (ltb largest_count (t.known + n)) (no t CountTooLarge) (answer (raised (t.known + n) t) (Ok tt)))

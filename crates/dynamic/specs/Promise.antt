@@ -1,7 +1,7 @@
 -- What each call promises: its answer and the next record to the last field; the arena's bytes; what that is in the model; and that the rules are kept.
 use Rattle.std.specs.Prelude.{◌≡◌, true, List, ℕ}
-use Rattle.answers.specs.Answer.{Answer}
-use Rattle.answers.specs.Table.{Done, replied, found, inserted}
+use Rattle.answers.specs.Answer.{answered, Answer}
+use Rattle.answers.specs.Table.{Done, replied}
 use Rattle.model.specs.Drop as model-table
 use Rattle.model.specs.Insert as model-insert
 use Rattle.model.specs.Section as model-section
@@ -35,7 +35,7 @@ pub record Puts (t : Table) (a b : List ℕ) (exact r : Replied) (n v : List ℕ
 pub record Finds (t : Table) (a n v : List ℕ) (r : Looked) : Type 0 where
   pub next : r ≡ calls.find t a n v
   pub model : usable t a ≡ true
-      → outcome r.table a (found r.found) ≡ model-section.find (view t a) (record { name = n; value = v })
+      → outcome r.table a (answered r.found) ≡ model-section.find (view t a) (record { name = n; value = v })
   pub kept : usable t a ≡ true → usable r.table a ≡ true
 
 -- an insert
@@ -43,5 +43,5 @@ pub record Inserts (t : Table) (a b n v : List ℕ) (r : Inserting) : Type 0 whe
   pub next : r ≡ calls.insert t a n v
   pub bytes : b ≡ calls.bytes_after t r.table a n v
   pub model : usable t a ≡ true
-      → outcome r.table b (inserted r.inserted) ≡ model-insert.insert (view t a) (record { name = n; value = v })
+      → outcome r.table b (answered r.inserted) ≡ model-insert.insert (view t a) (record { name = n; value = v })
   pub kept : usable t a ≡ true → usable r.table b ≡ true

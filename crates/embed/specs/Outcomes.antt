@@ -1,12 +1,10 @@
--- What leaves the library: each answer as document 01's number, with its values beside it.
-use Rattle.std.specs.Prelude.{List, ◌++◌, ℕ, length, drop}
-use Rattle.answers.specs.Answer.{answer_number}
-use Rattle.answers.specs.Table.{replied, found, inserted}
-use Rattle.answers.specs.declared.Find.{Find}
-use Rattle.answers.specs.declared.Insert.{Insert}
+-- What leaves the library: each answer as the specification's number, with its values beside it.
+use Rattle.std.specs.Prelude.{Result, Ok, Err, List, ◌++◌, ℕ, length, drop}
+use Rattle.answers.specs.declared.Refusal.{Refusal}
+use Rattle.answers.specs.Answer.{answered, answer_number, number_of}
+use Rattle.answers.specs.Table.{replied}
 use Rattle.answers.specs.declared.Insertion.{Insertion}
 use Rattle.answers.specs.declared.Lookup.{Lookup}
-use Rattle.answers.specs.declared.Reply.{Reply}
 use Rattle.section_steps.specs.declared.Decoded.{Decoded}
 use Rattle.dynamic.specs.Calls.{with_ring}
 use Rattle.dynamic.specs.declared.Inserting.{Inserting}
@@ -24,7 +22,7 @@ use Rattle.embed.specs.declared.outcomes.Outcome.{Outcome}
 use Rattle.embed.specs.declared.outcomes.SectionOutcome.{SectionOutcome}
 
 -- 0 for done, and else the row 1 to 26
-abbrev pub reply_number : Reply → ℕ
+abbrev pub reply_number : Result Unit Refusal → ℕ
 reply_number r = answer_number (replied r)
 
 -- a call that gives back the table alone
@@ -52,19 +50,24 @@ insertion_named (Insertion.InsertedWithStaticNameRef p i x) = named 7 i p x
 insertion_named (Insertion.NotInserted l) = lookup_named l
 
 -- a refusal has no values
-abbrev pub find_named : Find → Named
-find_named (Find.Found l) = lookup_named l
-find_named (Find.Refused r) = named 0 0 0 0
+abbrev pub find_named : Result Lookup Refusal → Named
+find_named (Ok l) = lookup_named l
+find_named (Err r) = named 0 0 0 0
 
-abbrev pub insert_named : Insert → Named
-insert_named (Insert.Insertion i) = insertion_named i
-insert_named (Insert.Refused r) = named 0 0 0 0
+abbrev pub insert_named : Result Insertion Refusal → Named
+insert_named (Ok i) = insertion_named i
+insert_named (Err r) = named 0 0 0 0
+
+-- a table with what a find or an insert named, as the code hands it on
+abbrev pub named_outcome : Table → Result Named Refusal → NamedOutcome
+named_outcome t (Ok n) = record { table = t; named = n; answer = 0 }
+named_outcome t (Err r) = record { table = t; named = named 0 0 0 0; answer = number_of r }
 
 abbrev pub looked_of : Looked → NamedOutcome
-looked_of r = record { table = r.table; named = find_named r.found; answer = answer_number (found r.found) }
+looked_of r = record { table = r.table; named = find_named r.found; answer = answer_number (answered r.found) }
 
 abbrev pub inserting_of : Inserting → NamedOutcome
-inserting_of r = record { table = r.table; named = insert_named r.inserted; answer = answer_number (inserted r.inserted) }
+inserting_of r = record { table = r.table; named = insert_named r.inserted; answer = answer_number (answered r.inserted) }
 
 -- ---- streams and sections
 

@@ -1,4 +1,4 @@
-// The library for C and Rust: each call under a plain name, with its answer as document 01's number. include/qpack_table.h declares the same.
+// The library for C and Rust: each call by a plain name, its answer as the specification's number. include/qpack_table.h declares the same.
 #![tactic(auto)]
 
 ghost use Rattle.std.specs.Prelude.{◌≡◌, length};
@@ -27,14 +27,14 @@ pub fn qpack_fresh() -> Table
 pub fn qpack_set_capacity(table: Table, capacity: usize) -> Outcome
     ensures { result ≡ spec.outcome_of (calls.set_capacity table capacity) }
 {
-    outcomes::told(table.set_capacity(capacity))
+    Outcome::from(table.set_capacity(capacity))
 }
 
 // Sets the blocked maximum.
 pub fn qpack_set_max_blocked(table: Table, most: usize) -> Outcome
     ensures { result ≡ spec.outcome_of (calls.set_most table most) }
 {
-    outcomes::told(table.set_max_blocked(most))
+    Outcome::from(table.set_max_blocked(most))
 }
 
 // Inserts a field, where it can be.
@@ -42,7 +42,7 @@ pub fn qpack_put(table: Table, arena: &mut [u8], name: &[u8], value: &[u8]) -> O
     ensures value { result ≡ spec.outcome_of (calls.put table arena.old name.now value.now) }
     ensures arena_after { arena.new ≡ calls.bytes_after table result.table arena.old name.now value.now }
 {
-    outcomes::told(table.put(arena, name, value))
+    Outcome::from(table.put(arena, name, value))
 }
 
 // ---- sections
@@ -51,14 +51,14 @@ pub fn qpack_put(table: Table, arena: &mut [u8], name: &[u8], value: &[u8]) -> O
 pub fn qpack_begin(table: Table, stream: u64) -> Outcome
     ensures { result ≡ spec.outcome_of (calls.begin table stream) }
 {
-    outcomes::told(table.begin(stream))
+    Outcome::from(table.begin(stream))
 }
 
 // The latest entry of a field, which the open section then uses.
 pub fn qpack_find(table: Table, arena: &[u8], name: &[u8], value: &[u8]) -> NamedOutcome
     ensures { result ≡ spec.looked_of (calls.find table arena.now name.now value.now) }
 {
-    outcomes::looked(table.find(arena, name, value))
+    NamedOutcome::from(table.find(arena, name, value))
 }
 
 // Inserts a field that the open section then uses, or says what names it.
@@ -66,7 +66,7 @@ pub fn qpack_insert(table: Table, arena: &mut [u8], name: &[u8], value: &[u8]) -
     ensures value { result ≡ spec.inserting_of (calls.insert table arena.old name.now value.now) }
     ensures arena_after { arena.new ≡ calls.bytes_after table result.table arena.old name.now value.now }
 {
-    outcomes::inserting(table.insert(arena, name, value))
+    NamedOutcome::from(table.insert(arena, name, value))
 }
 
 // Puts the open section into the queue; largest is its largest reference.
@@ -74,14 +74,14 @@ pub fn qpack_insert(table: Table, arena: &mut [u8], name: &[u8], value: &[u8]) -
 pub fn qpack_commit(table: Table, largest: usize) -> Outcome
     ensures { result ≡ spec.outcome_of (calls.commit table largest) }
 {
-    outcomes::told(table.commit(largest))
+    Outcome::from(table.commit(largest))
 }
 
 // Closes the open section and gives all its references back.
 pub fn qpack_abandon(table: Table) -> Outcome
     ensures { result ≡ spec.outcome_of (calls.abandon table) }
 {
-    outcomes::told(table.abandon())
+    Outcome::from(table.abandon())
 }
 
 // ---- the peer's reports
@@ -91,22 +91,22 @@ pub fn qpack_abandon(table: Table) -> Outcome
 pub fn qpack_acknowledge(table: Table, stream: u64) -> Outcome
     ensures { result ≡ spec.outcome_of (calls.release table stream) }
 {
-    outcomes::told(table.acknowledge(stream))
+    Outcome::from(table.acknowledge(stream))
 }
 
-// The peer cancelled a stream.
+// The peer cancelled a stream: C calls this apart from an acknowledgement.
 #[inline(always)]
 pub fn qpack_cancel(table: Table, stream: u64) -> Outcome
     ensures { result ≡ spec.outcome_of (calls.release table stream) }
 {
-    outcomes::told(table.cancel(stream))
+    Outcome::from(table.cancel(stream))
 }
 
 // The peer received more inserts.
 pub fn qpack_increment(table: Table, inserts: usize) -> Outcome
     ensures { result ≡ spec.outcome_of (calls.increment table inserts) }
 {
-    outcomes::told(table.increment(inserts))
+    Outcome::from(table.increment(inserts))
 }
 
 // ---- streams
@@ -122,15 +122,13 @@ pub fn qpack_on_encoder_recv(
     ensures arena_after { arena.new ≡ (received table arena.old bytes.now (length out.old)).state.arena }
     ensures out_after { out.new ≡ spec.out_of (received table arena.old bytes.now (length out.old)) out.old }
 {
-    let r = encoder_stream::on_encoder_recv(table, arena, bytes, out);
-    let next = r.table;
-    let reply = r.reply;
+    let received = encoder_stream::on_encoder_recv(table, arena, bytes, out);
     EncoderOutcome {
-        table: next,
-        consumed: r.consumed,
-        inserted: r.inserted,
-        written: r.written,
-        answer: outcomes::reply_number(reply),
+        table: received.table,
+        consumed: received.consumed,
+        inserted: received.inserted,
+        written: received.written,
+        answer: outcomes::reply_number(received.reply),
     }
 }
 
@@ -138,13 +136,11 @@ pub fn qpack_on_encoder_recv(
 pub fn qpack_on_decoder_recv(table: Table, bytes: &[u8]) -> DecoderOutcome
     ensures { result ≡ spec.ended_of (receiving table bytes.now) }
 {
-    let r = decoder_stream::on_decoder_recv(table, bytes);
-    let after = r.table;
-    let reply = r.reply;
+    let reported = decoder_stream::on_decoder_recv(table, bytes);
     DecoderOutcome {
-        table: after,
-        consumed: r.consumed,
-        answer: outcomes::reply_number(reply),
+        table: reported.table,
+        consumed: reported.consumed,
+        answer: outcomes::reply_number(reported.reply),
     }
 }
 
@@ -162,7 +158,7 @@ pub fn qpack_read_section(
     ensures fields_after { fields.new ≡ (read_all numbers (on_table table arena.now) bytes.now fields.old out.old).fields }
     ensures out_after { out.new ≡ (read_all numbers (on_table table arena.now) bytes.now fields.old out.old).out }
 {
-    outcomes::decoded(decoder::read_on(bytes, arena, table, fields, out))
+    SectionOutcome::from(decoder::read_on(bytes, arena, &table, fields, out))
 }
 
 // Reads a section with no table; most is the largest size sum.
@@ -176,5 +172,5 @@ pub fn qpack_read_stateless(
     ensures fields_after { fields.new ≡ (read_all numbers (stateless most) bytes.now fields.old out.old).fields }
     ensures out_after { out.new ≡ (read_all numbers (stateless most) bytes.now fields.old out.old).out }
 {
-    outcomes::decoded(decoder::read_stateless(bytes, MaxSize { bytes: most }, fields, out))
+    SectionOutcome::from(decoder::read_stateless(bytes, MaxSize { bytes: most }, fields, out))
 }

@@ -1,8 +1,8 @@
-// What leaves the library: a table with an answer as document 01's number, and its values beside it.
+// What leaves the library: a table with an answer as the specification's number, and its values beside it.
 ghost use Rattle.std.specs.Prelude.{◌≡◌};
 ghost use Rattle.embed.specs.Outcomes as spec;
 
-use answers::{Find, Insert, Insertion, Lookup, Reply};
+use answers::{Insertion, Lookup, Refusal};
 use decoder::Decoded;
 use dynamic::{Inserting, Looked, Replied, Table};
 
@@ -15,6 +15,7 @@ pub struct Outcome {
 }
 
 // What a find or an insert found or made: its kind, and the values that the kind has; the others are 0.
+// A number and no enum, and no Option: C reads this layout.
 #[repr(C)]
 #[derive(Clone, Copy)]
 pub struct Named {
@@ -64,23 +65,23 @@ pub struct SectionOutcome {
     pub answer: u8,
 }
 
-pub fn reply_number(reply: Reply) -> u8
+pub fn reply_number(reply: Result<(), Refusal>) -> u8
     ensures { result ≡ spec.reply_number reply }
 {
     match reply {
-        Reply::Done => 0,
-        Reply::Refused(why) => answers::number(why),
+        Ok(()) => 0,
+        Err(why) => answers::number(why),
     }
 }
 
-pub fn told(r: Replied) -> Outcome
-    ensures { result ≡ spec.outcome_of r }
-{
-    let table = r.table;
-    let reply = r.reply;
-    Outcome {
-        table,
-        answer: reply_number(reply),
+impl From<Replied> for Outcome {
+    ghost from_gives = { λ r x. x ≡ spec.outcome_of r };
+
+    fn from(r: Replied) -> Outcome {
+        Outcome {
+            table: r.table,
+            answer: reply_number(r.reply),
+        }
     }
 }
 
@@ -95,53 +96,55 @@ pub fn naming(kind: u8, index: usize, postbase: usize, absolute: usize) -> Named
     }
 }
 
-pub fn lookup_named(lookup: Lookup) -> Named
-    ensures { result ≡ spec.lookup_named lookup }
-{
-    match lookup {
-        Lookup::NotFound => naming(0, 0, 0, 0),
-        Lookup::Static(index) => naming(1, index, 0, 0),
-        Lookup::Relative { index, absolute } => naming(2, index, 0, absolute),
-        Lookup::PostBase { index, absolute } => naming(3, index, 0, absolute),
+impl From<Lookup> for Named {
+    ghost from_gives = { λ l x. x ≡ spec.lookup_named l };
+
+    fn from(lookup: Lookup) -> Named {
+        match lookup {
+            Lookup::NotFound => naming(0, 0, 0, 0),
+            Lookup::Static(index) => naming(1, index, 0, 0),
+            Lookup::Relative { index, absolute } => naming(2, index, 0, absolute),
+            Lookup::PostBase { index, absolute } => naming(3, index, 0, absolute),
+        }
     }
 }
 
-pub fn insertion_named(insertion: Insertion) -> Named
-    ensures { result ≡ spec.insertion_named insertion }
-{
-    match insertion {
-        Insertion::Inserted { postbase, absolute } => naming(4, 0, postbase, absolute),
-        Insertion::Duplicated {
-            relative,
-            postbase,
-            absolute,
-        } => naming(5, relative, postbase, absolute),
-        Insertion::InsertedWithNameRef {
-            postbase,
-            relative,
-            absolute,
-        } => naming(6, relative, postbase, absolute),
-        Insertion::InsertedWithStaticNameRef {
-            postbase,
-            index,
-            absolute,
-        } => naming(7, index, postbase, absolute),
-        Insertion::NotInserted(lookup) => lookup_named(lookup),
+impl From<Insertion> for Named {
+    ghost from_gives = { λ i x. x ≡ spec.insertion_named i };
+
+    fn from(insertion: Insertion) -> Named {
+        match insertion {
+            Insertion::Inserted { postbase, absolute } => naming(4, 0, postbase, absolute),
+            Insertion::Duplicated {
+                relative,
+                postbase,
+                absolute,
+            } => naming(5, relative, postbase, absolute),
+            Insertion::InsertedWithNameRef {
+                postbase,
+                relative,
+                absolute,
+            } => naming(6, relative, postbase, absolute),
+            Insertion::InsertedWithStaticNameRef {
+                postbase,
+                index,
+                absolute,
+            } => naming(7, index, postbase, absolute),
+            Insertion::NotInserted(lookup) => Named::from(lookup),
+        }
     }
 }
 
-pub fn looked(r: Looked) -> NamedOutcome
-    ensures { result ≡ spec.looked_of r }
+fn named_outcome(table: Table, named: Result<Named, Refusal>) -> NamedOutcome
+    ensures { result ≡ spec.named_outcome table named }
 {
-    let table = r.table;
-    let found = r.found;
-    match found {
-        Find::Found(lookup) => NamedOutcome {
+    match named {
+        Ok(named) => NamedOutcome {
             table,
-            named: lookup_named(lookup),
+            named,
             answer: 0,
         },
-        Find::Refused(why) => NamedOutcome {
+        Err(why) => NamedOutcome {
             table,
             named: naming(0, 0, 0, 0),
             answer: answers::number(why),
@@ -149,34 +152,32 @@ pub fn looked(r: Looked) -> NamedOutcome
     }
 }
 
-pub fn inserting(r: Inserting) -> NamedOutcome
-    ensures { result ≡ spec.inserting_of r }
-{
-    let table = r.table;
-    let inserted = r.inserted;
-    match inserted {
-        Insert::Insertion(insertion) => NamedOutcome {
-            table,
-            named: insertion_named(insertion),
-            answer: 0,
-        },
-        Insert::Refused(why) => NamedOutcome {
-            table,
-            named: naming(0, 0, 0, 0),
-            answer: answers::number(why),
-        },
+impl From<Looked> for NamedOutcome {
+    ghost from_gives = { λ r x. x ≡ spec.looked_of r };
+
+    fn from(r: Looked) -> NamedOutcome {
+        named_outcome(r.table, r.found.map(Named::from))
     }
 }
 
-pub fn decoded(d: Decoded) -> SectionOutcome
-    ensures { result ≡ spec.decoded_of d }
-{
-    let reply = d.reply;
-    SectionOutcome {
-        count: d.count,
-        used: d.used,
-        size: d.size,
-        dynamic: d.dynamic,
-        answer: reply_number(reply),
+impl From<Inserting> for NamedOutcome {
+    ghost from_gives = { λ r x. x ≡ spec.inserting_of r };
+
+    fn from(r: Inserting) -> NamedOutcome {
+        named_outcome(r.table, r.inserted.map(Named::from))
+    }
+}
+
+impl From<Decoded> for SectionOutcome {
+    ghost from_gives = { λ d x. x ≡ spec.decoded_of d };
+
+    fn from(d: Decoded) -> SectionOutcome {
+        SectionOutcome {
+            count: d.count,
+            used: d.used,
+            size: d.size,
+            dynamic: d.dynamic,
+            answer: reply_number(d.reply),
+        }
     }
 }

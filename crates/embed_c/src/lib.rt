@@ -1,4 +1,5 @@
 // The exports of the archive for C and Rust: each calls the function of its name in `embed`, and promises the same.
+// Two crates, since a crate with exports is an archive, and whoever writes Rattle uses `embed` as a library.
 #![tactic(auto)]
 
 ghost use Rattle.std.specs.Prelude.{◌≡◌, length};

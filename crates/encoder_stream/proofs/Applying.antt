@@ -6,15 +6,14 @@ use mathlib.Core.Option.{some, none}
 use Prim.Native.Nat.{ℕ, ◌+◌, ◌-◌, ◌≤◌}
 use native.Mathlib.Omega.{arith}
 use lib.ListN.{take, drop}
+use Rattle.std.specs.Prelude.{Result, Ok}
 use Rattle.answers.specs.Answer.{done, refused}
 use Rattle.answers.specs.declared.Refusal.{Refusal}
 use Rattle.answers.specs.declared.Refusal.TheVariants.{ShrinkBlocked}
-use Rattle.answers.specs.declared.Reply.{Reply}
 use Rattle.dynamic.specs.Calls.{capacity_answer, push_reply}
 use Rattle.instructions.specs.Instruction.{duplicate, capacity, name_ref, stretch, parsed, Inside}
 use Rattle.instructions.specs.declared.Parsed.{Parsed}
-use Rattle.ring.specs.Ring.{Pushes, cutting}
-use Rattle.ring.specs.declared.Cut.{Cut}
+use Rattle.ring.specs.Ring.{Pushes, cutting, Cut}
 use Rattle.ring.specs.declared.Pushed.{Pushed}
 use Rattle.ring.specs.declared.Ring.{Ring}
 use Rattle.ring.specs.declared.Source.{Source}
@@ -25,8 +24,8 @@ use Rattle.encoder_stream.specs.Entries.{static_name, kept, Held, holding, took,
 
 -- an insert
 pub pushed_by_lem : (r : Ring) (a b : List ℕ) (low : ℕ) (s : Source) (n v : List ℕ) (p : Pushed) → Pushes r a b low s n v p
-    → (y : Reply) → y ≡ push_reply r.capacity p.push
-    → took (record { ring = p.ring; reply = y }) b ≡ pushed low (holding r a) s n v
+    → (y : Result Unit Refusal) → y ≡ push_reply r.capacity p.push
+    → took p.ring y b ≡ pushed low (holding r a) s n v
 unfolding pushed
 pushed_by_lem r a b low s n v p w y e = rw (← w.next, ← w.bytes, e)
 
@@ -73,7 +72,7 @@ module _ (low : ℕ) (r : Ring) (a : List ℕ) where
     unfolding applied
     capacity_blocked m = rw (h, ← e, m)
 
-    pub capacity_set : k.made ≡ true → took (record { ring = k.ring; reply = Reply.Done }) a ≡ applied low x (capacity c)
+    pub capacity_set : k.made ≡ true → took k.ring (Ok tt) a ≡ applied low x (capacity c)
     unfolding applied
     capacity_set m = rw (h, ← e, m)
 

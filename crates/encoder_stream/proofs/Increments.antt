@@ -8,31 +8,25 @@ use lib.Dec.{leb, ltb, eqb}
 use lib.ListN.{length}
 use lib.Seq.{sets}
 use borrow.Author.Tests.{le-leb, lt-leb, ne_eqb, lt-ltb}
-use Rattle.answers.specs.Answer.{Answer, done, refused}
+use Rattle.std.specs.Prelude.{Result, Ok, Err}
+use Rattle.answers.specs.Answer.{answered, Answer, done, refused}
 use Rattle.answers.specs.Table.{replied}
-use Rattle.answers.specs.Write.{Writes, written}
+use Rattle.answers.specs.Write.{Writes}
 use Rattle.answers.specs.declared.Refusal.{Refusal}
 use Rattle.answers.specs.declared.Refusal.TheVariants.{BufSize}
-use Rattle.answers.specs.declared.Reply.{Reply}
-use Rattle.answers.specs.declared.Written.{Written}
-use Rattle.answers.specs.declared.Written.TheVariants.{Next, Refused}
 use Rattle.answers.proofs.Write.{writes_sets}
 use Rattle.forms.specs.declared.DecoderInstruction.TheVariants.{InsertCountIncrement}
 use Rattle.forms.specs.declared.Kind.TheVariants.{Decoder}
 use Rattle.prefix_int.specs.Integer.{encode, spell}
 use Rattle.stream.specs.Instructions.{integer_bytes}
 use Rattle.encoder_stream.specs.Stream.{most_inserts, increment_room, increment_bytes, incremented, Tells, told}
-use Rattle.encoder_stream.specs.declared.Finished.{Finished}
 use Rattle.encoder_stream.proofs.Front.{sets_front}
 
-abbrev pub nothing : Reply → Finished
-nothing y = record { written = 0; reply = y }
-
 module _ (n : ℕ) (o : List ℕ) where
-  pub none_inserted : n ≡ 0 → Tells (incremented n) o o (nothing Reply.Done)
+  pub none_inserted : n ≡ 0 → Tells (incremented n) o o (Ok 0)
   none_inserted e = record { answer = rw e; written = rw e; out = rw e }
 
-  pub too_many : most_inserts < n → Tells (incremented n) o o (nothing (Reply.Refused BufSize))
+  pub too_many : most_inserts < n → Tells (incremented n) o o (Err BufSize)
   too_many h =
       let some : eqb n 0 ≡ false = ne_eqb n 0 (λ e. omega arith) in
       let over : leb n most_inserts ≡ false = lt-leb n most_inserts h in
@@ -54,15 +48,15 @@ module _ (n : ℕ) (o : List ℕ) where
     unfolding integer_bytes increment_bytes
     bytes_are = rw (lt-ltb n (9223372036854775808) (omega arith))
 
-    module _ (room : increment_room ≤ length o) (p : List ℕ) (w : Written)
+    module _ (room : increment_room ≤ length o) (p : List ℕ) (w : Result ℕ Refusal)
         (v : Writes (integer_bytes (Decoder InsertCountIncrement) n) o 0 w p) where
-      wrote : (written w ≡ done (length (increment_bytes n))) × (p ≡ sets o 0 (increment_bytes n))
+      wrote : (answered w ≡ done (length (increment_bytes n))) × (p ≡ sets o 0 (increment_bytes n))
       wrote =
           let e : 0 + length (increment_bytes n) ≡ length (increment_bytes n) = omega arith in
           let z = writes_sets (increment_bytes n) o 0 w p (omega (arith, short)) (rw bytes_are at v) in
           (rw e at z.0, z.1)
 
-      pub one_increment : (e : ℕ) → w ≡ Next e → Tells (incremented n) o p (record { written = e; reply = Reply.Done })
+      pub one_increment : (e : ℕ) → w ≡ Ok e → Tells (incremented n) o p (Ok e)
       one_increment e q =
           let some : eqb n 0 ≡ false = ne_eqb n 0 (λ z. omega arith) in
           let few : leb n most_inserts ≡ true = le-leb n most_inserts high in
@@ -75,18 +69,25 @@ module _ (n : ℕ) (o : List ℕ) where
             out = rw (some, few, end) (wrote.1 ∙ sets_front (increment_bytes n) o fits);
           }
 
-      pub never_refused : (r : Refusal) → w ≡ Refused r → ⊥
+      pub never_refused : (r : Refusal) → w ≡ Err r → ⊥
       never_refused r q =
           let no : ◌≡◌ {A = Answer ℕ} (refused r) (done (length (increment_bytes n))) = rw q at wrote.0 in
           let z : ◌≡◌ {A = ℕ} 0 1 = cc in omega arith
 
+      pub told_increment : Tells (incremented n) o p w
+      told_increment = go w refl
+        where
+          go : (x : Result ℕ Refusal) → w ≡ x → Tells (incremented n) o p x
+          go (Ok e) q = one_increment e q
+          go (Err r) q = absurd (never_refused r q)
+
 -- ---- by the answer of the instructions
 
-pub told_done : (n : ℕ) (o p : List ℕ) (f : Finished) (y : Reply) → y ≡ Reply.Done → Tells (incremented n) o p f → Tells (told (replied y) n) o p f
+pub told_done : (n : ℕ) (o p : List ℕ) (f : Result ℕ Refusal) (y : Result Unit Refusal) → y ≡ (Ok tt) → Tells (incremented n) o p f → Tells (told (replied y) n) o p f
 unfolding told
 told_done n o p f y e w = rw e w
 
-pub told_refused : (n : ℕ) (o : List ℕ) (y : Reply) (r : Refusal) → y ≡ Reply.Refused r
-    → Tells (told (replied y) n) o o (nothing (Reply.Refused r))
+pub told_refused : (n : ℕ) (o : List ℕ) (y : Result Unit Refusal) (r : Refusal) → y ≡ Err r
+    → Tells (told (replied y) n) o o (Err r)
 unfolding told
 told_refused n o y r e = rw e (record { answer = refl; written = refl; out = refl })

@@ -7,11 +7,11 @@ use Prim.Native.Nat.{ℕ, zero, suc, ◌-◌, ◌<◌}
 use native.Mathlib.Omega.{arith}
 use lib.ListN.{length, get_or}
 use borrow.Author.Tests.{lt-ltb}
+use Rattle.std.specs.Prelude.{Ok}
 use Rattle.answers.specs.Answer.{Answer, done, refused}
 use Rattle.answers.specs.Table.{Done, ok, replied}
 use Rattle.answers.specs.declared.Refusal.{Refusal}
 use Rattle.answers.specs.declared.Refusal.TheVariants.{ShrinkBlocked}
-use Rattle.answers.specs.declared.Reply.{Reply}
 use Rattle.dynamic.specs.Calls.{with_ring, answer, no, put_by, capacity_answer, set_capacity}
 use Rattle.dynamic.specs.Promise.{outcome, Keeps}
 use Rattle.dynamic.specs.Record.{view, sound, usable, lowest_used}
@@ -25,8 +25,7 @@ use Rattle.entries.proofs.Chain.{and_left, and_right}
 use Rattle.instructions.specs.Instruction.{Instruction, duplicate, capacity, literal, name_ref}
 use Rattle.model.specs.Drop as model-table
 use Rattle.model.specs.Table as model
-use Rattle.ring.specs.Ring.{live, entry_in, field_from, source_live, pushing, bytes_after, placed_bytes, cutting, Pushes}
-use Rattle.ring.specs.declared.Cut.{Cut}
+use Rattle.ring.specs.Ring.{live, entry_in, field_from, source_live, pushing, bytes_after, placed_bytes, cutting, Pushes, Cut}
 use Rattle.ring.specs.declared.Ring.{Ring}
 use Rattle.ring.specs.declared.Source.{Source}
 use Rattle.ring.specs.declared.Source.TheVariants.{Given, NameOf, CopyOf}
@@ -37,8 +36,7 @@ use Rattle.running.proofs.Run.{Shows}
 use Rattle.static_table.specs.Static.{no_field}
 use Rattle.vas.specs.Vas.{relative_at}
 use Rattle.vas.proofs.Positions.{named_below}
-use Rattle.encoder_stream.specs.Entries.{static_name, kept as stays, naming, Held, holding, pushed, cut_unless, position_in, applied}
-use Rattle.encoder_stream.specs.Entries.{took_in, entry_in as entryNamed, put_in, field_in, applied_in}
+use Rattle.encoder_stream.specs.Entries.{static_name, kept as stays, naming, Held, holding, pushed, cut_unless, position_in, applied, took_in, entry_in as entryNamed, put_in, field_in, applied_in}
 use Rattle.encoder_stream.proofs.Sources.{as_given, arrays_kept, arrays_cut}
 
 -- what the entries and the arena stand for in a table
@@ -161,7 +159,7 @@ module _ (t : Table) (off : t.active ≡ false) (low : ℕ) (is : low ≡ lowest
               (cond b (record { state = holding cut.ring x.arena; answer = done ok }) (stays x ShrinkBlocked))
               (took_in (model-table.set_capacity (viewed t x) c))
           made e true q =
-              steps (answer (with_ring cut.ring u) Reply.Done) cut.ring (capacity_cut u c rules off cut cut_is e q) refl
+              steps (answer (with_ring cut.ring u) (Ok tt)) cut.ring (capacity_cut u c rules off cut cut_is e q) refl
               (arrays_cut x.ring low c g.arrays)
           made e false q = steps (no u ShrinkBlocked) x.ring (capacity_blocked u c rules off cut cut_is e q) refl g.arrays
 

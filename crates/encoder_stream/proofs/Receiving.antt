@@ -7,11 +7,12 @@ use Prim.Native.Nat.{ℕ, ◌-◌, ◌≤◌, ◌<◌}
 use native.Mathlib.Omega.{arith}
 use lib.ListN.{length}
 use borrow.Author.Tests.{le-leb, lt-leb}
+use Rattle.std.specs.Prelude.{Result, Ok, Err}
+use Rattle.std.specs.Result.{result_unwrap_or, result_and}
 use Rattle.answers.specs.Answer.{refused}
 use Rattle.answers.specs.Table.{replied}
 use Rattle.answers.specs.declared.Refusal.{Refusal}
 use Rattle.answers.specs.declared.Refusal.TheVariants.{SectionOpen, BadCall}
-use Rattle.answers.specs.declared.Reply.{Reply}
 use Rattle.dynamic.specs.Calls.{with_ring}
 use Rattle.dynamic.specs.Record.{view, usable, lowest_used}
 use Rattle.dynamic.specs.declared.Table.{Table}
@@ -19,19 +20,27 @@ use Rattle.dynamic.proofs.Steps.{open_section, no_section_lem}
 use Rattle.instructions.specs.Instruction.{instruction_at}
 use Rattle.model.specs.Table as model
 use Rattle.ring.proofs.Keeping.{Arrays}
+use Rattle.ring.specs.declared.Ring.{Ring}
 use Rattle.running.specs.Run.{Ended, ends, run_all, unless_open}
 use Rattle.running.proofs.Run.{seen, run_shown, run_good}
-use Rattle.encoder_stream.specs.declared.Finished.{Finished}
 use Rattle.encoder_stream.specs.declared.Ran.{Ran}
 use Rattle.encoder_stream.specs.declared.Received.{Received}
 use Rattle.encoder_stream.specs.Entries.{Held, applied, applied_in}
-use Rattle.encoder_stream.specs.Stream.{increment_room, told, Tells, Streamed, streamed, inserted_in, held_by, ran_to}
-use Rattle.encoder_stream.specs.Stream.{receiving, received, received_in, seen_in, Receives}
+use Rattle.encoder_stream.specs.Stream.{increment_room, told, Tells, count_of, said, Streamed, streamed, inserted_in, held_by, ran_to, receiving, received, received_in, seen_in, Receives}
 use Rattle.encoder_stream.proofs.Modelled.{viewed, Good, shows, counted, counted_in}
 
 -- a call that nothing came of, where n were inserted so far
 abbrev stopped : model.Table → ℕ → Streamed model.Table
 stopped m n = record { state = m; consumed = 0; total = n; told = told (refused SectionOpen) (n - n) }
+
+-- an increment's bytes and answer, as a call gives them back
+counts : (f : Result ℕ Refusal) → result_unwrap_or f 0 ≡ count_of f
+counts (Ok n) = refl
+counts (Err r) = refl
+
+answered : (f : Result ℕ Refusal) → replied (result_and f (Ok tt)) ≡ said f
+answered (Ok n) = refl
+answered (Err r) = refl
 
 module _ (t : Table) (a s o : List ℕ) where
   abbrev start : Held
@@ -40,7 +49,7 @@ module _ (t : Table) (a s o : List ℕ) where
   -- ---- a refusal at the start
 
   abbrev refused_by : Refusal → Received
-  refused_by why = record { table = t; consumed = 0; inserted = t.ring.inserted; written = 0; reply = Reply.Refused why }
+  refused_by why = record { table = t; consumed = 0; inserted = t.ring.inserted; written = 0; reply = Err why }
 
   refuses : (why : Refusal) → receiving t a s (length o) ≡ ends start 0 (refused why)
       → (usable t a ≡ true → increment_room ≤ length o → seen_in t (received t a s (length o)) ≡ received_in (view t a) s)
@@ -104,32 +113,32 @@ module _ (t : Table) (a s o : List ℕ) where
 
       in_model : seen_in t (streamed inserted_in start all) ≡ streamed model.inserted_of (view t a) (seen (viewed t) all)
       in_model =
-          ap (counts all.state.ring.inserted) (sym (counted_in t a h))
-          ∙ ap (λ (n : ℕ). counts n (model.inserted_of (view t a))) (sym (counted t off (lowest_used t) refl all.state last))
+          ap (totals all.state.ring.inserted) (sym (counted_in t a h))
+          ∙ ap (λ (n : ℕ). totals n (model.inserted_of (view t a))) (sym (counted t off (lowest_used t) refl all.state last))
         where
-          counts : ℕ → ℕ → Streamed model.Table
-          counts n m = record { state = viewed t all.state; consumed = all.consumed; total = n; told = told all.answer (n - m) }
+          totals : ℕ → ℕ → Streamed model.Table
+          totals n m = record { state = viewed t all.state; consumed = all.consumed; total = n; told = told all.answer (n - m) }
 
-      pub receives_ran : (b p : List ℕ) (y : Ran) → ran_to y b ≡ all → (f : Finished)
-          → Tells (told (replied y.reply) (y.ring.inserted - t.ring.inserted)) o p f
+      pub receives_ran : (b p : List ℕ) (u : Ring) (y : Ran) → ran_to u y b ≡ all → (f : Result ℕ Refusal)
+          → Tells (told (replied y.reply) (u.inserted - t.ring.inserted)) o p f
           → {r : Received}
-          → r ≡ record { table = with_ring y.ring t; consumed = y.consumed; inserted = y.ring.inserted; written = f.written; reply = f.reply }
+          → r ≡ record { table = with_ring u t; consumed = y.consumed; inserted = u.inserted; written = result_unwrap_or f 0; reply = result_and f (Ok tt) }
           → Receives t a b s o p r
       unfolding received_in
-      receives_ran b p y e f w q =
-          let ring : y.ring ≡ all.state.ring = ap (λ (z : Ended Held). z.state.ring) e in
+      receives_ran b p u y e f w q =
+          let ring : u ≡ all.state.ring = ap (λ (z : Ended Held). z.state.ring) e in
           let bytes : b ≡ all.state.arena = ap (λ (z : Ended Held). z.state.arena) e in
           let end : y.consumed ≡ all.consumed = ap (λ (z : Ended Held). z.consumed) e in
-          let said : replied y.reply ≡ all.answer = ap (λ (z : Ended Held). z.answer) e in
-          let tells : Tells (streamed inserted_in start all).told o p f = rw (said, ring) at w in
+          let done_all : replied y.reply ≡ all.answer = ap (λ (z : Ended Held). z.answer) e in
+          let tells : Tells (streamed inserted_in start all).told o p f = rw (done_all, ring) at w in
           record {
             table = rw (q, runs, ring);
             arena = rw runs bytes;
             consumed = rw (q, runs) end;
             inserted = rw (q, runs, ring);
-            answer = rw (q, runs) tells.answer;
-            written = rw (q, runs) tells.written;
-            out = rw (q, runs) tells.out;
+            answer = rw (q, answered f, runs) tells.answer;
+            written = rw (q, counts f, runs) tells.written;
+            out = rw (q, counts f, runs) tells.out;
             model = λ u g. rw runs (in_model ∙ ap (streamed model.inserted_of (view t a)) (shown ∙ not_open));
             kept = λ u. rw (q, ring, bytes) last.usable;
           }

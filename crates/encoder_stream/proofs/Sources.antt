@@ -7,8 +7,7 @@ use lib.Dec.{ltb}
 use lib.ListN.{length, length-set}
 use Rattle.entries.specs.Entry.{slots}
 use Rattle.field.specs.Field.{Field, size_of}
-use Rattle.ring.specs.Ring.{largest_count, room_in, field_from, pushable, pushed_by, pushed, pushing, placed_bytes, Pushes, cut_by, cutting}
-use Rattle.ring.specs.declared.Cut.{Cut}
+use Rattle.ring.specs.Ring.{largest_count, room_in, field_from, pushable, pushed_by, pushed, pushing, placed_bytes, Pushes, cut_by, cutting, Cut}
 use Rattle.ring.specs.declared.Push.TheVariants.{Made, TooLarge, NoRoom, Full, BadCall}
 use Rattle.ring.specs.declared.Pushed.{Pushed}
 use Rattle.ring.specs.declared.Ring.{Ring}

@@ -1,21 +1,23 @@
 -- The name of a static entry, copied to a buffer. Assumes nothing.
-use mathlib.Core.Path.{◌≡◌, ◌∙◌}
+use mathlib.Core.Path.{◌≡◌, refl, ap, ◌∙◌}
 use mathlib.Core.Bool.{Bool, true, false, cond}
 use mathlib.Core.List.{List, ◌++◌}
 use Prim.Native.Nat.{ℕ, ◌≤◌}
+use native.Mathlib.Nat.{zero-add}
 use native.Mathlib.Omega.{arith}
 use lib.Dec.{ltb}
 use lib.ListN.{length, get_or, take, drop}
 use lib.Seq.{sets, length-sets, take_at}
 use borrow.Author.Tests.{lt-ltb}
-use Rattle.answers.specs.Answer.{done, refused}
+use Rattle.std.specs.Prelude.{Result, Ok, Err}
+use Rattle.answers.specs.Answer.{answered, done, refused}
 use Rattle.answers.specs.Write.{Writes}
 use Rattle.answers.specs.declared.Refusal.{Refusal}
 use Rattle.answers.specs.declared.Refusal.TheVariants.{InvalidStaticIndex}
-use Rattle.answers.specs.declared.Written.{Written}
 use Rattle.answers.proofs.Write.{writes_sets}
 use Rattle.static_table.specs.AppendixA.{appendix_a}
-use Rattle.static_table.specs.Static.{Place, no_field, place_of, laid, entry_at, cut_of}
+use Rattle.static_table.specs.Static.{no_field, place_of, laid, entry_at, cut_of}
+use Rattle.static_table.specs.declared.Place.{Place}
 use Rattle.static_table.proofs.Copied.{cut_done}
 use Rattle.static_table.proofs.Table.{entries, Placed, entry_placed}
 use Rattle.byte_writing.proofs.Stretch.{cut, cut_length}
@@ -32,7 +34,7 @@ static_refused i w h = go (ltb i (length appendix_a)) h
     go false h = let e : InvalidStaticIndex ≡ w = cc in rw e
 
 -- a buffer of 32 bytes takes every name
-module _ (i : ℕ) (p : Place) (h : entry_at i ≡ done p) (l m : List ℕ) (r : Written) (long : length l ≡ 32)
+module _ (i : ℕ) (p : Place) (h : entry_at i ≡ done p) (l m : List ℕ) (r : Result ℕ Refusal) (long : length l ≡ 32)
     (w : Writes (cut_of p.start p.name) l 0 r m) where
   abbrev f : Placed i p
   f = entry_placed i p h
@@ -50,6 +52,17 @@ module _ (i : ℕ) (p : Place) (h : entry_at i ≡ done p) (l m : List ℕ) (r :
   stored =
       let v : Writes (done name) l 0 r m = rw done_cut at w in
       (writes_sets name l 0 r m (omega (arith, sized, f.name_short)) v).1
+
+  -- the copy is made, and ends behind the name
+  pub copied_is : r ≡ Ok p.name
+  copied_is = go r refl (told ∙ ap done sized)
+    where
+      told : answered r ≡ done (length name)
+      told = rw zero-add at (writes_sets name l 0 r m (omega (arith, sized, f.name_short)) (rw done_cut at w)).0
+
+      go : (x : Result ℕ Refusal) → r ≡ x → answered x ≡ done p.name → r ≡ Ok p.name
+      go (Ok n) e h = let same : n ≡ p.name = cc in rw (e, same)
+      go (Err q) e h = let z : ◌≡◌ {A = ℕ} 0 1 = cc in absurd (omega arith)
 
   pub copied_long : p.name ≤ length m
   copied_long = let same : length m ≡ length l = rw stored (length-sets l 0 name) in omega (arith, f.name_short)

@@ -14,8 +14,7 @@ use Rattle.answers.specs.declared.Refusal.TheVariants.{ShrinkBlocked}
 use Rattle.dynamic.specs.Calls.{capacity_answer, push_reply}
 use Rattle.field.specs.Field.{Field, size_of}
 use Rattle.instructions.specs.Instruction.{Instruction, duplicate, capacity, literal, name_ref}
-use Rattle.ring.specs.Ring.{largest_count, room_in, field_from, pushable, pushed_by, pushed as pushedTo, pushing, bytes_after, placed_bytes, cutting}
-use Rattle.ring.specs.declared.Cut.{Cut}
+use Rattle.ring.specs.Ring.{largest_count, room_in, field_from, pushable, pushed_by, pushed as pushedTo, pushing, bytes_after, placed_bytes, cutting, Cut}
 use Rattle.ring.specs.declared.Push.TheVariants.{Made, TooLarge, NoRoom, Full, BadCall}
 use Rattle.ring.specs.declared.Pushed.{Pushed}
 use Rattle.ring.specs.declared.Source.{Source}

@@ -5,16 +5,16 @@ use mathlib.Core.Option.{some, none}
 use Prim.Native.Nat.{ℕ, ◌+◌, ◌-◌, ◌≤◌, ◌<◌}
 use native.Mathlib.Omega.{arith}
 use lib.ListN.{length}
+use Rattle.std.specs.Prelude.{Result, Ok, Err, Option as Maybe, Some}
 use Rattle.answers.specs.Answer.{done, refused}
 use Rattle.answers.specs.Table.{ok, replied}
 use Rattle.answers.specs.declared.Refusal.{Refusal}
-use Rattle.answers.specs.declared.Reply.{Reply}
 use Rattle.instructions.specs.Instruction.{Instruction, instruction_at, Inside, Within}
-use Rattle.instructions.specs.declared.InstructionRead.{InstructionRead}
 use Rattle.instructions.specs.declared.Parsed.{Parsed}
+use Rattle.running.specs.declared.Whole.{Whole as CodeWhole}
 use Rattle.running.specs.Run.{Whole, Took, Ended, ends, run, run_all}
 use Rattle.running.proofs.Run.{run_over, run_cut, run_bad, run_refused, run_on}
-use Rattle.encoder_stream.specs.declared.Applied.{Applied}
+use Rattle.ring.specs.declared.Ring.{Ring}
 use Rattle.encoder_stream.specs.Entries.{Held, holding, took, applied}
 use Rattle.encoder_stream.proofs.Staying.{refused_stays}
 
@@ -27,9 +27,9 @@ pub record Going (low : ℕ) (s : List ℕ) (x₀ x : Held) (at : ℕ) : Type 0 
   pub rest : run instruction_at (applied low) fuel s at x ≡ whole low s x₀
 
 -- an instruction that was read lies in the slice
-pub whole_within : (s : List ℕ) (at : ℕ) (r : InstructionRead) (i : Parsed) (e : ℕ) → r ≡ InstructionRead.Whole i e → Within s at r
-    → Inside (length s) i × (at < e) × (e ≤ length s)
-whole_within s at r i e q h = rw q at h
+pub whole_within : (s : List ℕ) (at : ℕ) (r : Result (Maybe (CodeWhole Parsed)) Refusal) (i : CodeWhole Parsed) → r ≡ Ok (Some i) → Within s at r
+    → Inside (length s) i.instruction × (at < i.next) × (i.next ≤ length s)
+whole_within s at r i q h = rw q at h
 
 pub going : (low : ℕ) (s : List ℕ) (x : Held) → Going low s x x 0
 going low s x = record { fuel = length s; enough = omega arith; rest = refl }
@@ -48,24 +48,24 @@ module _ {low : ℕ} {s : List ℕ} {x₀ x : Held} {at : ℕ} (g : Going low s 
     pub ends_bad : (r : Refusal) → instruction_at s at ≡ refused r → ends x at (refused r) ≡ whole low s x₀
     ends_bad r e = sym (run_bad instruction_at (applied low) s at x g.fuel h some_fuel r e) ∙ g.rest
 
-    module _ (i : Whole Instruction) (e : instruction_at s at ≡ done (some i)) (y : Applied) (b : List ℕ)
-        (w : took y b ≡ applied low x i.instruction) where
-      answered : (z : Reply) → y.reply ≡ z → (applied low x i.instruction).answer ≡ replied z
-      answered z q = ap (λ (t : Took Held). t.answer) (sym w) ∙ ap replied q
+    module _ (i : Whole Instruction) (e : instruction_at s at ≡ done (some i)) (y : Ring) (z : Result Unit Refusal) (b : List ℕ)
+        (w : took y z b ≡ applied low x i.instruction) where
+      answered : (o : Result Unit Refusal) → z ≡ o → (applied low x i.instruction).answer ≡ replied o
+      answered o q = ap (λ (t : Took Held). t.answer) (sym w) ∙ ap replied q
 
       -- a refusal leaves the entries and the arena
-      pub ends_refused : (r : Refusal) → y.reply ≡ Reply.Refused r → ends (holding y.ring b) at (refused r) ≡ whole low s x₀
+      pub ends_refused : (r : Refusal) → z ≡ Err r → ends (holding y b) at (refused r) ≡ whole low s x₀
       ends_refused r q =
-          let no = answered (Reply.Refused r) q in
-          let same : holding y.ring b ≡ x = ap (λ (t : Took Held). t.state) w ∙ refused_stays low x i.instruction r no in
-          ap (λ (z : Held). ends z at (refused r)) same
+          let no = answered (Err r) q in
+          let same : holding y b ≡ x = ap (λ (t : Took Held). t.state) w ∙ refused_stays low x i.instruction r no in
+          ap (λ (h : Held). ends h at (refused r)) same
           ∙ sym (run_refused instruction_at (applied low) s at x g.fuel h some_fuel i e r no)
           ∙ g.rest
 
-      pub goes_on : y.reply ≡ Reply.Done → at < i.next → Going low s x₀ (holding y.ring b) i.next
+      pub goes_on : z ≡ (Ok tt) → at < i.next → Going low s x₀ (holding y b) i.next
       goes_on q past =
-          let yes = answered Reply.Done q in
-          let next : (applied low x i.instruction).state ≡ holding y.ring b = ap (λ (t : Took Held). t.state) (sym w) in
+          let yes = answered (Ok tt) q in
+          let next : (applied low x i.instruction).state ≡ holding y b = ap (λ (t : Took Held). t.state) (sym w) in
           record {
             fuel = g.fuel - 1;
             enough = omega (arith, g.enough, some_fuel);

@@ -1,5 +1,5 @@
 -- What an instruction does to the entries of a table, to the last field, and to the arena; and what it does in the model.
-use Rattle.std.specs.Prelude.{true, false, cond, List, [], ℕ, ltb, length, get_or}
+use Rattle.std.specs.Prelude.{Result, true, false, cond, List, [], ℕ, ltb, length, get_or}
 use Rattle.std.proofs.Math.Option.{Option, some, none}
 use Rattle.answers.specs.Answer.{Answer, done, refused}
 use Rattle.answers.specs.Table.{Done, ok, replied}
@@ -9,8 +9,7 @@ use Rattle.dynamic.specs.Calls.{capacity_answer, push_reply}
 use Rattle.field.specs.Field.{Field}
 use Rattle.model.specs.Drop as model-table
 use Rattle.model.specs.Table as model
-use Rattle.ring.specs.Ring.{pushing, bytes_after, placed_bytes, cutting}
-use Rattle.ring.specs.declared.Cut.{Cut}
+use Rattle.ring.specs.Ring.{pushing, bytes_after, placed_bytes, cutting, Cut}
 use Rattle.ring.specs.declared.Ring.{Ring}
 use Rattle.ring.specs.declared.Source.{Source}
 use Rattle.ring.specs.declared.Source.TheVariants.{Given, NameOf, CopyOf}
@@ -18,7 +17,6 @@ use Rattle.running.specs.Run.{Took}
 use Rattle.static_table.specs.AppendixA.{appendix_a}
 use Rattle.static_table.specs.Static.{no_field}
 use Rattle.vas.specs.Vas.{relative_at}
-use Rattle.encoder_stream.specs.declared.Applied.{Applied}
 use Rattle.instructions.specs.Instruction.{Instruction, duplicate, capacity, literal, name_ref}
 
 -- "4 InvalidStaticIndex: 99 or more"
@@ -42,9 +40,9 @@ pub record Held : Type 0 where
 abbrev pub holding : Ring → List ℕ → Held
 holding r a = record { ring = r; arena = a }
 
--- what the code gives back of an instruction, with the arena
-abbrev pub took : Applied → List ℕ → Took Held
-took r b = record { state = holding r.ring b; answer = replied r.reply }
+-- what an instruction left of the entries and the arena, and its answer
+abbrev pub took : Ring → Result Unit Refusal → List ℕ → Took Held
+took r reply b = record { state = holding r b; answer = replied reply }
 
 -- an insert: low is the lowest entry that may not go
 unfoldable pub pushed : ℕ → Held → Source → List ℕ → List ℕ → Took Held

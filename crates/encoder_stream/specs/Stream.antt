@@ -1,7 +1,8 @@
 -- A call on the encoder stream: "applies whole instructions, reports bytes consumed and total inserted, and writes one increment if anything was inserted".
-use Rattle.std.specs.Prelude.{◌≡◌, true, false, ◌&&◌, cond, List, [], ◌++◌, ℕ, ◌-◌, ◌≤◌, leb, eqb, length, drop}
+use Rattle.std.specs.Prelude.{Result, Ok, Err, ◌≡◌, true, false, ◌&&◌, cond, List, [], ◌++◌, ℕ, ◌-◌, ◌≤◌, leb, eqb, length, drop}
 use Rattle.answers.specs.Answer.{Answer, done, refused}
 use Rattle.answers.specs.Table.{Done, ok, replied}
+use Rattle.answers.specs.declared.Refusal.{Refusal}
 use Rattle.answers.specs.declared.Refusal.TheVariants.{BufSize, SectionOpen, BadCall}
 use Rattle.dynamic.specs.Calls.{with_ring}
 use Rattle.dynamic.specs.Record.{view, usable, lowest_used}
@@ -11,10 +12,10 @@ use Rattle.forms.specs.declared.DecoderInstruction.TheVariants.{InsertCountIncre
 use Rattle.forms.specs.declared.Kind.TheVariants.{Decoder}
 use Rattle.model.specs.Table as model
 use Rattle.prefix_int.specs.Integer.{encode}
+use Rattle.ring.specs.declared.Ring.{Ring}
 use Rattle.running.specs.Run.{Ended, ends, run_all, unless_open}
 use Rattle.encoder_stream.specs.Entries.{Held, applied, applied_in}
 use Rattle.instructions.specs.Instruction.{instruction_at}
-use Rattle.encoder_stream.specs.declared.Finished.{Finished}
 use Rattle.encoder_stream.specs.declared.Ran.{Ran}
 use Rattle.encoder_stream.specs.declared.Received.{Received}
 
@@ -44,11 +45,20 @@ incremented n =
     (record { answer = done ok; bytes = [] })
     (cond (leb n most_inserts) (record { answer = done ok; bytes = increment_bytes n }) (record { answer = refused BufSize; bytes = [] }))
 
+-- how many bytes were written, or why none
+abbrev pub count_of : Result ℕ Refusal → ℕ
+count_of (Ok n) = n
+count_of (Err r) = 0
+
+abbrev pub said : Result ℕ Refusal → Answer Done
+said (Ok n) = done ok
+said (Err r) = refused r
+
 -- the code's answer, and the buffer before and after
-pub record Tells (x : Told) (o p : List ℕ) (f : Finished) : Type 0 where
-  pub answer : replied f.reply ≡ x.answer
-  pub written : f.written ≡ length x.bytes
-  pub out : p ≡ x.bytes ++ drop f.written o
+pub record Tells (x : Told) (o p : List ℕ) (f : Result ℕ Refusal) : Type 0 where
+  pub answer : said f ≡ x.answer
+  pub written : count_of f ≡ length x.bytes
+  pub out : p ≡ x.bytes ++ drop (count_of f) o
 
 -- "a refused stream call .. writes no increment"; n were inserted
 unfoldable pub told : Answer Done → ℕ → Told
@@ -79,8 +89,8 @@ abbrev pub held_by : Table → List ℕ → Held
 held_by t a = record { ring = t.ring; arena = a }
 
 -- where the code's loop ends
-abbrev pub ran_to : Ran → List ℕ → Ended Held
-ran_to r b = ends (record { ring = r.ring; arena = b }) r.consumed (replied r.reply)
+abbrev pub ran_to : Ring → Ran → List ℕ → Ended Held
+ran_to r y b = ends (record { ring = r; arena = b }) y.consumed (replied y.reply)
 
 -- 22, then 18, then the instructions
 unfoldable pub receiving : Table → List ℕ → List ℕ → ℕ → Ended Held

@@ -1,23 +1,23 @@
 // A call on the encoder stream, RFC 9204 4.3: its instructions, read and applied in their order, and the increment that answers them.
 #![tactic(auto)]
 
-ghost use Rattle.std.specs.Prelude.{◌≡◌, true, false, List, ℕ, ◌-◌, ◌≤◌, length};
+ghost use Rattle.std.specs.Prelude.{Err, ◌≡◌, true, false, List, ℕ, ◌-◌, ◌≤◌, length};
+ghost use Rattle.answers.specs.Answer.{answered};
 ghost use Rattle.answers.specs.Table.{replied};
-ghost use Rattle.vas.specs.Vas.{located, relative_at};
+ghost use Rattle.vas.specs.Vas.{relative_at};
 ghost use Rattle.running.specs.Run.{run_all};
 ghost use Rattle.instructions.specs.Instruction as spec-instruction;
 ghost use Rattle.instructions.specs.Instruction.{instruction_at, parsed, Inside};
 ghost use Rattle.encoder_stream.specs.Entries.{holding, took, pushed, applied};
 ghost use Rattle.encoder_stream.specs.Stream.{increment_room, incremented, told, Tells, ran_to, Receives};
 
-use answers::{Refusal, Reply, Written};
+use answers::Refusal;
 use arena::RING;
-use dynamic::{CapacityTest, Table};
+use dynamic::Table;
 use forms::{DecoderInstruction, Kind};
-use instructions::{InstructionRead, Parsed};
+use instructions::Parsed;
 use ring::{Ring, Source};
-use static_table::StaticGot;
-use vas::{Located, VirtualAddressSpace};
+use vas::VirtualAddressSpace;
 
 // A table, how many bytes were consumed, the total inserted, how many bytes were written, and the call's answer.
 #[derive(Clone, Copy)]
@@ -26,29 +26,14 @@ pub struct Received {
     pub consumed: usize,
     pub inserted: usize,
     pub written: usize,
-    pub reply: Reply,
+    pub reply: Result<(), Refusal>,
 }
 
-// The entries after an instruction, and its answer.
-#[derive(Clone, Copy)]
-struct Applied {
-    ring: Ring,
-    reply: Reply,
-}
-
-// The entries after a call's instructions, how many bytes were consumed, and the answer.
+// How many bytes a call's instructions consumed, and their answer.
 #[derive(Clone, Copy)]
 struct Ran {
-    ring: Ring,
     consumed: usize,
-    reply: Reply,
-}
-
-// How many bytes of an increment were written, and the call's answer.
-#[derive(Clone, Copy)]
-struct Finished {
-    written: usize,
-    reply: Reply,
+    reply: Result<(), Refusal>,
 }
 
 // The most inserts that one increment tells.
@@ -60,38 +45,26 @@ pub const INCREMENT_ROOM: usize = 3;
 // How long the longest name of the static table is.
 const LONGEST_NAME: usize = 32;
 
-fn refused(ring: Ring, why: Refusal) -> Applied
-    ensures { result ≡ record { ring = ring; reply = Reply.Refused why } }
-{
-    Applied {
-        ring,
-        reply: Reply::Refused(why),
-    }
-}
-
 // One more entry, where it can be made.
 fn push(
-    ring: Ring,
+    ring: &mut Ring,
     arena: &mut [u8],
     low: usize,
     source: Source,
     name: &[u8],
     value: &[u8],
-) -> Applied
-    ensures { took result arena.new ≡ pushed low (holding ring arena.old) source name.now value.now }
+) -> Result<(), Refusal>
+    ensures { took ring.new result arena.new ≡ pushed low (holding ring.old arena.old) source name.now value.now }
 {
-    let p = ring.push(arena, low, source, name, value);
-    let next = p.ring;
-    let push = p.push;
-    Applied {
-        ring: next,
-        reply: dynamic::push_reply(ring.capacity, push),
-    }
+    let capacity = ring.capacity;
+    let pushed = ring.push(arena, low, source, name, value);
+    *ring = pushed.ring;
+    dynamic::push_reply(capacity, pushed.push)
 }
 
 // The live entry that an index names, by its position.
-fn locate(ring: Ring, index: usize) -> Located
-    ensures { located result ≡ relative_at ring.inserted ring.dropped index }
+fn locate(ring: &Ring, index: usize) -> Result<usize, Refusal>
+    ensures { answered result ≡ relative_at ring.now.inserted ring.now.dropped index }
 {
     let live = VirtualAddressSpace {
         inserted: ring.inserted,
@@ -101,69 +74,63 @@ fn locate(ring: Ring, index: usize) -> Located
 }
 
 // A duplicate of a live entry.
-fn duplicate(ring: Ring, arena: &mut [u8], low: usize, index: usize) -> Applied
-    ensures { took result arena.new ≡ applied low (holding ring arena.old) (spec-instruction.duplicate index) }
+fn duplicate(ring: &mut Ring, arena: &mut [u8], low: usize, index: usize) -> Result<(), Refusal>
+    ensures { took ring.new result arena.new ≡ applied low (holding ring.old arena.old) (spec-instruction.duplicate index) }
 {
-    let at = locate(ring, index);
-    match at {
-        Located::Refused(why) => refused(ring, why),
-        Located::At(position) => push(ring, arena, low, Source::CopyOf(position), &[], &[]),
-    }
+    let position = locate(ring, index)?;
+    push(ring, arena, low, Source::CopyOf(position), &[], &[])
 }
 
 // A value under the name of a live entry.
-fn insert_named(ring: Ring, arena: &mut [u8], low: usize, index: usize, value: &[u8]) -> Applied
-    ensures { took result arena.new ≡ applied low (holding ring arena.old) (spec-instruction.name_ref false index value.now) }
+fn insert_named(
+    ring: &mut Ring,
+    arena: &mut [u8],
+    low: usize,
+    index: usize,
+    value: &[u8],
+) -> Result<(), Refusal>
+    ensures { took ring.new result arena.new ≡ applied low (holding ring.old arena.old) (spec-instruction.name_ref false index value.now) }
 {
-    let at = locate(ring, index);
-    match at {
-        Located::Refused(why) => refused(ring, why),
-        Located::At(position) => push(ring, arena, low, Source::NameOf(position), &[], value),
-    }
+    let position = locate(ring, index)?;
+    push(ring, arena, low, Source::NameOf(position), &[], value)
 }
 
 // A value under a name of the static table.
-fn insert_static(ring: Ring, arena: &mut [u8], low: usize, index: usize, value: &[u8]) -> Applied
-    ensures { took result arena.new ≡ applied low (holding ring arena.old) (spec-instruction.name_ref true index value.now) }
+fn insert_static(
+    ring: &mut Ring,
+    arena: &mut [u8],
+    low: usize,
+    index: usize,
+    value: &[u8],
+) -> Result<(), Refusal>
+    ensures { took ring.new result arena.new ≡ applied low (holding ring.old arena.old) (spec-instruction.name_ref true index value.now) }
 {
-    let found = static_table::get(index as u64);
-    match found {
-        StaticGot::Refused(why) => refused(ring, why),
-        StaticGot::Entry {
-            start,
-            name: len,
-            value: _,
-        } => {
-            let mut name = [0; LONGEST_NAME];
-            static_table::copy(&mut name, 0, start, len);
-            push(ring, arena, low, Source::Given, &name[..len], value)
-        }
-    }
+    let place = static_table::get(index as u64)?;
+    let mut name = [0; LONGEST_NAME];
+    let end = static_table::copy(&mut name, 0, place.start, place.name).unwrap();
+    push(ring, arena, low, Source::Given, &name[..end], value)
 }
 
 // Another capacity.
-fn set_capacity(ring: Ring, low: usize, capacity: usize) -> Applied
-    ensures { (a : List ℕ) → took result a ≡ applied low (holding ring a) (spec-instruction.capacity capacity) }
+fn set_capacity(ring: &mut Ring, low: usize, capacity: usize) -> Result<(), Refusal>
+    ensures { (a : List ℕ) → took ring.new result a ≡ applied low (holding ring.old a) (spec-instruction.capacity capacity) }
 {
-    let test = dynamic::capacity_test(capacity);
-    if let CapacityTest::Refused(why) = test {
-        return refused(ring, why);
-    }
-    let cut = ring.cut(low, capacity);
-    if !cut.made {
-        return refused(ring, Refusal::ShrinkBlocked);
-    }
-    let next = cut.ring;
-    Applied {
-        ring: next,
-        reply: Reply::Done,
-    }
+    dynamic::capacity_test(capacity)?;
+    let cut = ring.cut(low, capacity).ok_or(Refusal::ShrinkBlocked)?;
+    *ring = cut;
+    Ok(())
 }
 
 // One instruction.
-fn apply(ring: Ring, arena: &mut [u8], low: usize, s: &[u8], one: Parsed) -> Applied
+fn apply(
+    ring: &mut Ring,
+    arena: &mut [u8],
+    low: usize,
+    s: &[u8],
+    one: Parsed,
+) -> Result<(), Refusal>
     requires { Inside (length s.now) one }
-    ensures { took result arena.new ≡ applied low (holding ring arena.old) (parsed s.now one) }
+    ensures { took ring.new result arena.new ≡ applied low (holding ring.old arena.old) (parsed s.now one) }
 {
     match one {
         Parsed::Duplicate(index) => duplicate(ring, arena, low, index),
@@ -201,99 +168,75 @@ fn apply(ring: Ring, arena: &mut [u8], low: usize, s: &[u8], one: Parsed) -> App
     }
 }
 
-fn ended(ring: Ring, consumed: usize, reply: Reply) -> Ran
-    ensures { result ≡ record { ring = ring; consumed = consumed; reply = reply } }
+fn ended(consumed: usize, reply: Result<(), Refusal>) -> Ran
+    ensures { result ≡ record { consumed = consumed; reply = reply } }
 {
-    Ran {
-        ring,
-        consumed,
-        reply,
-    }
+    Ran { consumed, reply }
 }
 
-// The instructions of a slice.
-fn apply_all(mut ring: Ring, arena: &mut [u8], low: usize, s: &[u8]) -> Ran
-    ensures { ran_to result arena.new ≡ run_all instruction_at (applied low) s.now (holding ring arena.old) }
+// The instructions of a slice. A refusal leaves the entries as they are. A loop for both streams would be no plainer.
+fn apply_all(ring: &mut Ring, arena: &mut [u8], low: usize, s: &[u8]) -> Ran
+    ensures { ran_to ring.new result arena.new ≡ run_all instruction_at (applied low) s.now (holding ring.old arena.old) }
 {
     let mut at = 0;
+    // each turn goes on where the instruction ended: no iterator steps by that
     while at < s.len() {
-        let read = instructions::read_instruction(s, at);
-        match read {
-            InstructionRead::Cut => {
-                return ended(ring, at, Reply::Done);
-            }
-            InstructionRead::Refused(why) => {
-                return ended(ring, at, Reply::Refused(why));
-            }
-            InstructionRead::Whole { parsed, next } => {
-                let one = apply(ring, arena, low, s, parsed);
-                // a refusal leaves the entries as they are
-                ring = one.ring;
-                let reply = one.reply;
-                if let Reply::Refused(why) = reply {
-                    return ended(ring, at, Reply::Refused(why));
+        match instructions::read_instruction(s, at) {
+            Ok(Some(read)) => {
+                if let Err(refusal) = apply(ring, arena, low, s, read.instruction) {
+                    return ended(at, Err(refusal));
                 }
-                at = next;
+                at = read.next;
+            }
+            Ok(None) => {
+                return ended(at, Ok(()));
+            }
+            Err(why) => {
+                return ended(at, Err(why));
             }
         }
     }
-    ended(ring, at, Reply::Done)
+    ended(at, Ok(()))
 }
 
-// One increment for what was inserted.
-fn write_increment(out: &mut [u8], before: usize, after: usize) -> Finished
+// One increment for what was inserted: how many bytes it has.
+fn write_increment(out: &mut [u8], before: usize, after: usize) -> Result<usize, Refusal>
     requires { increment_room ≤ length out.old }
     ensures { Tells (incremented (after - before)) out.old out.new result }
 {
     if after <= before {
-        return Finished {
-            written: 0,
-            reply: Reply::Done,
-        };
+        return Ok(0);
     }
     if MOST_INSERTS < after - before {
-        return Finished {
-            written: 0,
-            reply: Reply::Refused(Refusal::BufSize),
-        };
+        return Err(Refusal::BufSize);
     }
     let kind = Kind::Decoder(DecoderInstruction::InsertCountIncrement);
-    let w = stream::write_integer(out, 0, kind, (after - before) as u64);
-    match w {
-        Written::Next(written) => Finished {
-            written,
-            reply: Reply::Done,
-        },
-        Written::Refused(why) => Finished {
-            written: 0,
-            reply: Reply::Refused(why),
-        },
-    }
+    stream::write_integer(out, 0, kind, (after - before) as u64)
 }
 
-// What a call answers for its instructions' answer, and writes.
-fn finish(out: &mut [u8], before: usize, after: usize, reply: Reply) -> Finished
+// What a call writes, and answers for its instructions' answer.
+fn finish(
+    out: &mut [u8],
+    before: usize,
+    after: usize,
+    reply: Result<(), Refusal>,
+) -> Result<usize, Refusal>
     requires { increment_room ≤ length out.old }
     ensures { Tells (told (replied reply) (after - before)) out.old out.new result }
 {
-    match reply {
-        Reply::Done => write_increment(out, before, after),
-        Reply::Refused(why) => Finished {
-            written: 0,
-            reply: Reply::Refused(why),
-        },
-    }
+    reply?;
+    write_increment(out, before, after)
 }
 
 fn stays(table: Table, why: Refusal) -> Received
-    ensures { result ≡ record { table = table; consumed = 0; inserted = table.ring.inserted; written = 0; reply = Reply.Refused why } }
+    ensures { result ≡ record { table = table; consumed = 0; inserted = table.ring.inserted; written = 0; reply = Err why } }
 {
     Received {
         table,
         consumed: 0,
         inserted: table.ring.inserted,
         written: 0,
-        reply: Reply::Refused(why),
+        reply: Err(why),
     }
 }
 
@@ -301,10 +244,9 @@ fn stays(table: Table, why: Refusal) -> Received
 pub fn on_encoder_recv(mut table: Table, arena: &mut [u8], s: &[u8], out: &mut [u8]) -> Received
     ensures { Receives table arena.old arena.new s.now out.old out.new result }
 {
-    let c = table.checked();
-    if !c.sound {
+    let Some(low) = table.checked() else {
         return stays(table, Refusal::BadCall);
-    }
+    };
     if arena.len() < RING {
         return stays(table, Refusal::BadCall);
     }
@@ -315,17 +257,14 @@ pub fn on_encoder_recv(mut table: Table, arena: &mut [u8], s: &[u8], out: &mut [
         return stays(table, Refusal::SectionOpen);
     }
     let before = table.ring.inserted;
-    let all = apply_all(table.ring, arena, c.low, s);
-    let ring = all.ring;
-    let applied = all.reply;
-    let end = finish(out, before, ring.inserted, applied);
-    let reply = end.reply;
-    table.ring = ring;
+    let ran = apply_all(&mut table.ring, arena, low, s);
+    let inserted = table.ring.inserted;
+    let told = finish(out, before, inserted, ran.reply);
     Received {
         table,
-        consumed: all.consumed,
-        inserted: ring.inserted,
-        written: end.written,
-        reply,
+        consumed: ran.consumed,
+        inserted,
+        written: told.unwrap_or(0),
+        reply: told.and(Ok(())),
     }
 }

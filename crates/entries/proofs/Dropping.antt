@@ -1,6 +1,7 @@
 -- What the loop of `fewest` keeps: the walk over what is left makes up the whole. Assumes nothing.
 use mathlib.Core.Path.{◌≡◌, ap, ◌∙◌}
-use mathlib.Core.Bool.{true, false}
+use mathlib.Core.Bool.{Bool, true, false, cond}
+use lib.Dec.{leb}
 use mathlib.Core.List.{List, [], ◌∷◌}
 use Prim.Native.Nat.{ℕ, suc, ◌+◌, ◌-◌, ◌%◌, ◌≤◌, ◌<◌, min}
 use native.Mathlib.Nat.{add-zero, zero-add}
@@ -36,15 +37,22 @@ module _ (size tail free : ℕ) (l : List Entry) (room left at k : ℕ) (w : Dro
       go [] = rw (le-leb _ _ h, zero-add)
       go (e ∷ m) = rw (le-leb _ _ h, zero-add)
 
-  module _ (h : room < left) where
-    pub stuck : k ≡ min free (length l) → walked size tail free l room ≡ record { made = false; count = k; size = left; tail = at }
-    stuck most = w.rest ∙ go (drop k l) (length-drop k l)
-      where
-        go : (m : List Entry) → length m ≡ length l - k
-            → after k (walked left at (free - k) m room) ≡ record { made = false; count = k; size = left; tail = at }
-        go [] n = rw (lt-leb _ _ h, zero-add)
-        go (e ∷ m) n = rw (lt-leb _ _ h, le-ltb 0 (free - k) (omega arith), zero-add)
+  -- as many as may go went
+  pub over : k ≡ min free (length l) → walked size tail free l room ≡ record { made = leb left room; count = k; size = left; tail = at }
+  over most = w.rest ∙ go (drop k l) (length-drop k l)
+    where
+      by_test : (b : Bool)
+          → after k (cond b (record { made = true; count = 0; size = left; tail = at }) (record { made = false; count = 0; size = left; tail = at }))
+          ≡ record { made = b; count = k; size = left; tail = at }
+      by_test true = rw zero-add
+      by_test false = rw zero-add
 
+      go : (m : List Entry) → length m ≡ length l - k
+          → after k (walked left at (free - k) m room) ≡ record { made = leb left room; count = k; size = left; tail = at }
+      go [] n = rw zero-add
+      go (e ∷ m) n = rw (le-ltb 0 (free - k) (omega arith)) (by_test (leb left room))
+
+  module _ (h : room < left) where
     pub step : k < free → (e : Entry) → drop k l ≡ e ∷ drop (suc k) l → (n size' : ℕ) → n ≡ bytes_of e
         → size' ≡ left - (n + overhead) → Dropping size tail free l room size' ((at % ring + n) % ring) (k + 1)
     step f e next n size' en es =

@@ -11,8 +11,7 @@ use Rattle.arena.specs.Ring.{ring}
 use Rattle.field.specs.Field.{overhead}
 use Rattle.entries.specs.Entry.{Entry, slots, size_of, end_of}
 use Rattle.entries.specs.Rules.{chained, in_order, keeps_rules}
-use Rattle.entries.proofs.Chain.{and_left, and_right, end_of_append, chained_append, size_of_append}
-use Rattle.entries.proofs.Chain.{chained_drop, end_of_drop, end_of_low, size_is_bytes}
+use Rattle.entries.proofs.Chain.{and_left, and_right, end_of_append, chained_append, size_of_append, chained_drop, end_of_drop, end_of_low, size_is_bytes}
 
 pub record Rules (l : List Entry) (dropped inserted size capacity tail head : ℕ) : Type 0 where
   pub order : dropped ≤ inserted

@@ -1,4 +1,4 @@
--- Document 01: "An insertion of size s at capacity C drops the fewest oldest entries, none of them referenced, that leave
+-- The specification: "An insertion of size s at capacity C drops the fewest oldest entries, none of them referenced, that leave
 -- size + s <= C. It is not made exactly when no such number exists." Here `free` is how many of the oldest may go, and `room` is C - s.
 use Rattle.std.specs.Prelude.{true, false, cond, List, [], ◌∷◌, ℕ, suc, ◌+◌, ◌-◌, ◌%◌, ◌≤◌, ◌<◌, leb, ltb, length, drop}
 use Rattle.std.proofs.Math.Option.{Option, some, none}

@@ -2,6 +2,7 @@
 use Rattle.std.specs.Prelude.{List, [], ◌∷◌, ℕ, ◌+◌, ◌-◌, ◌%◌, get_or}
 use Rattle.arena.specs.Ring.{ring, ring_read}
 use Rattle.arena.specs.Tab.{tab}
+use Rattle.entries.specs.declared.Slots.{Slots}
 use Rattle.field.specs.Field.{Field, overhead}
 
 -- "512 entries"
@@ -30,6 +31,10 @@ slot_of starts names values i = record { start = get_or starts i 0; name = get_o
 -- the entries after the first d up to the m-th: the entry with absolute index k + 1 stands in slot k modulo the number of slots
 unfoldable pub between : List ℕ → List ℕ → List ℕ → ℕ → ℕ → List Entry
 between starts names values d m = tab (m - d) (λ (k : ℕ). slot_of starts names values ((d + k) % slots))
+
+-- the same of the arrays as a call takes them
+abbrev pub entries_of : Slots → ℕ → ℕ → List Entry
+entries_of s d m = between s.starts.now s.names.now s.values.now d m
 
 -- the field that an entry stands for
 abbrev pub field_of : List ℕ → Entry → Field

@@ -2,13 +2,13 @@
 // It takes the arrays of a table as they stand in its record, and knows nothing of what keeps an entry from going.
 #![tactic(auto)]
 
-ghost use Rattle.std.specs.Prelude.{◌≡◌, true, cond, List, map, ℕ, ◌+◌, ◌-◌, ◌*◌, ◌^◌, ◌≤◌, ◌<◌, min, length, get_or};
+ghost use Rattle.std.specs.Prelude.{◌≡◌, true, cond, List, map, ℕ, ◌+◌, ◌-◌, ◌*◌, ◌^◌, ◌≤◌, ◌<◌, length, get_or};
 ghost use Rattle.std.proofs.Math.Option.{none};
 ghost use Rattle.arena.specs.Ring.{long_enough, ring};
-ghost use Rattle.entries.specs.Entry.{slots, between, field_of};
+ghost use Rattle.entries.specs.Entry.{slots, between, entries_of, field_of};
 ghost use Rattle.entries.specs.Rules.{in_order, keeps_rules};
 ghost use Rattle.entries.specs.Drop.{walked};
-ghost use Rattle.entries.specs.Latest.{last_of, matches, latest};
+ghost use Rattle.entries.specs.Latest.{last_of, matches, bytes_in, is_given, latest};
 
 use arena::RING;
 use field::ESTIMATED_OVERHEAD_BYTES;
@@ -17,6 +17,7 @@ use field::ESTIMATED_OVERHEAD_BYTES;
 pub const SLOTS: usize = 512;
 
 // How the oldest entries make room: whether they do, how many go, and the size and the tail that are then left.
+// The flag stands beside the numbers, and no Option: `walked` promises them where no room is made, too.
 #[derive(Clone, Copy)]
 pub struct Room {
     pub made: bool,
@@ -25,162 +26,150 @@ pub struct Room {
     pub tail: usize,
 }
 
-// The position of an entry among the live ones, the oldest at 0.
+// The arrays of a ring of entries: where the bytes of each slot start, and how many its name and its value have.
+// The numbers of a ring come one by one: the record that holds them, in C's layout, stands in the crate above.
 #[derive(Clone, Copy)]
-pub enum Latest {
-    At(usize),
-    Nothing,
+pub struct Slots<'a> {
+    pub starts: &'a [u16; SLOTS],
+    pub names: &'a [u16; SLOTS],
+    pub values: &'a [u16; SLOTS],
 }
 
-// A u16 as a usize.
-fn wide(x: u16) -> usize
-    ensures { (result ≡ x) × (result < 2 ^ 16) }
-{
-    x as usize
-}
-
-// What is left of a number, 0 where more is taken than there is.
-fn minus(x: usize, y: usize) -> usize
-    ensures { result ≡ x - y }
-{
-    if x < y {
-        return 0;
+impl<'a> Slots<'a> {
+    // How many bytes the name and the value of a slot have.
+    fn bytes_at(self, i: usize) -> usize
+        requires { i < slots }
+        ensures { (result ≡ get_or self.entry.names.now i 0 + get_or self.entry.values.now i 0) × (result < 2 * 2 ^ 16) }
+    {
+        usize::from(self.names[i]) + usize::from(self.values[i])
     }
-    x - y
-}
 
-// The smaller of two numbers.
-fn smaller(x: usize, y: usize) -> usize
-    ensures { result ≡ min x y }
-{
-    if x < y {
-        return x;
-    }
-    y
-}
-
-// How many bytes the name and the value of a slot have.
-fn bytes_at<'a>(names: &'a [u16; SLOTS], values: &'a [u16; SLOTS], i: usize) -> usize
-    requires { i < slots }
-    ensures { (result ≡ get_or names.now i 0 + get_or values.now i 0) × (result < 2 * 2 ^ 16) }
-{
-    wide(names[i]) + wide(values[i])
-}
-
-// Whether the live entries lie one after the other from the tail to the head, and have that size.
-fn walk<'a>(
-    starts: &'a [u16; SLOTS],
-    names: &'a [u16; SLOTS],
-    values: &'a [u16; SLOTS],
-    dropped: usize,
-    inserted: usize,
-    size: usize,
-    tail: usize,
-    head: usize,
-) -> bool
-    requires { (dropped ≤ inserted) × (inserted - dropped ≤ slots) × (tail < ring) }
-    ensures { result ≡ in_order (between starts.now names.now values.now dropped inserted) size tail head }
-{
-    let live = inserted - dropped;
-    let mut p = tail;
-    let mut sum = 0;
-    let mut k = 0;
-    while k < live {
-        let i = (dropped + k) % SLOTS;
-        if wide(starts[i]) != p {
+    // Whether the live entries lie one after the other from the tail to the head, and have that size.
+    fn walk(self, dropped: usize, inserted: usize, size: usize, tail: usize, head: usize) -> bool
+        requires { (dropped ≤ inserted) × (inserted - dropped ≤ slots) × (tail < ring) }
+        ensures { result ≡ in_order (entries_of self.entry dropped inserted) size tail head }
+    {
+        let mut p = tail;
+        let mut sum = 0;
+        for k in 0..inserted - dropped {
+            let i = (dropped + k) % SLOTS;
+            if usize::from(self.starts[i]) != p {
+                return false;
+            }
+            let len = self.bytes_at(i);
+            p = (p + len) % RING;
+            sum += len + ESTIMATED_OVERHEAD_BYTES;
+        }
+        if p != head {
             return false;
         }
-        let len = bytes_at(names, values, i);
-        p = (p + len) % RING;
-        sum += len + ESTIMATED_OVERHEAD_BYTES;
-        k += 1;
+        sum == size
     }
-    if p != head {
-        return false;
-    }
-    sum == size
-}
 
-// Whether a ring keeps its rules.
-pub fn check<'a>(
-    starts: &'a [u16; SLOTS],
-    names: &'a [u16; SLOTS],
-    values: &'a [u16; SLOTS],
-    dropped: usize,
-    inserted: usize,
-    size: usize,
-    capacity: usize,
-    tail: usize,
-    head: usize,
-) -> bool
-    ensures { result ≡ keeps_rules (between starts.now names.now values.now dropped inserted) dropped inserted size capacity tail head }
-{
-    if inserted < dropped {
-        return false;
-    }
-    if SLOTS < inserted - dropped {
-        return false;
-    }
-    if RING < capacity {
-        return false;
-    }
-    if capacity < size {
-        return false;
-    }
-    if RING <= tail {
-        return false;
-    }
-    walk(starts, names, values, dropped, inserted, size, tail, head)
-}
-
-// The fewest oldest entries, at most free of them, that leave the size at most room.
-pub fn fewest<'a>(
-    names: &'a [u16; SLOTS],
-    values: &'a [u16; SLOTS],
-    dropped: usize,
-    inserted: usize,
-    size: usize,
-    tail: usize,
-    free: usize,
-    room: usize,
-) -> Room
-    ensures { (starts : List ℕ) → result ≡ walked size tail free (between starts names.now values.now dropped inserted) room }
-{
-    let most = smaller(free, minus(inserted, dropped));
-    let mut left = size;
-    let mut at = tail;
-    let mut count = 0;
-    while room < left {
-        if count == most {
-            return Room {
-                made: false,
-                count,
-                size: left,
-                tail: at,
-            };
+    // Whether a ring keeps its rules.
+    pub fn check(
+        self,
+        dropped: usize,
+        inserted: usize,
+        size: usize,
+        capacity: usize,
+        tail: usize,
+        head: usize,
+    ) -> bool
+        ensures { result ≡ keeps_rules (entries_of self.entry dropped inserted) dropped inserted size capacity tail head }
+    {
+        if inserted < dropped {
+            return false;
         }
-        let i = (dropped + count) % SLOTS;
-        let len = bytes_at(names, values, i);
-        left = minus(left, len + ESTIMATED_OVERHEAD_BYTES);
-        at = (at % RING + len) % RING;
-        count += 1;
+        if SLOTS < inserted - dropped {
+            return false;
+        }
+        if RING < capacity {
+            return false;
+        }
+        if capacity < size {
+            return false;
+        }
+        if RING <= tail {
+            return false;
+        }
+        self.walk(dropped, inserted, size, tail, head)
     }
-    Room {
-        made: true,
-        count,
-        size: left,
-        tail: at,
+
+    // The fewest oldest entries, at most free of them, that leave the size at most room.
+    pub fn fewest(
+        self,
+        dropped: usize,
+        inserted: usize,
+        size: usize,
+        tail: usize,
+        free: usize,
+        room: usize,
+    ) -> Room
+        ensures { (starts : List ℕ) → result ≡ walked size tail free (between starts self.entry.names.now self.entry.values.now dropped inserted) room }
+    {
+        let most = free.min(inserted.saturating_sub(dropped));
+        let mut left = size;
+        let mut at = tail;
+        for count in 0..most {
+            if left <= room {
+                return Room {
+                    made: true,
+                    count,
+                    size: left,
+                    tail: at,
+                };
+            }
+            let len = self.bytes_at((dropped + count) % SLOTS);
+            left = left.saturating_sub(len + ESTIMATED_OVERHEAD_BYTES);
+            at = (at % RING + len) % RING;
+        }
+        Room {
+            made: left <= room,
+            count: most,
+            size: left,
+            tail: at,
+        }
+    }
+
+    // The latest entry of a name and, where the whole field is looked for, of a value. In a short arena there is none.
+    pub fn newest(
+        self,
+        arena: &[u8],
+        dropped: usize,
+        inserted: usize,
+        name: &[u8],
+        value: Option<&[u8]>,
+    ) -> Option<usize>
+        ensures { latest result ≡ cond (long_enough arena.now)
+            (last_of (matches name.now (bytes_in value.entry) (is_given value.entry)) (map (field_of arena.now) (entries_of self.entry dropped inserted)))
+            none }
+    {
+        if arena.len() < RING {
+            return None;
+        }
+        for k in (0..inserted.saturating_sub(dropped)).rev() {
+            let i = (dropped + k) % SLOTS;
+            let start = usize::from(self.starts[i]);
+            let len = usize::from(self.values[i]);
+            if usize::from(self.names[i]) == name.len() {
+                if stands(arena, start, len, name, value) {
+                    return Some(k);
+                }
+            }
+        }
+        None
     }
 }
 
 // Whether an entry whose name is as long as the one looked for has that name and, where the whole field is looked for, that value.
-fn stands(arena: &[u8], start: usize, len: usize, name: &[u8], value: &[u8], whole: bool) -> bool
+fn stands(arena: &[u8], start: usize, len: usize, name: &[u8], value: Option<&[u8]>) -> bool
     requires { (long_enough arena.now ≡ true) × (start < 2 ^ 16) }
-    ensures { result ≡ matches name.now value.now whole (field_of arena.now (record { start = start; name = length name.now; value = len })) }
+    ensures { result ≡ matches name.now (bytes_in value.entry) (is_given value.entry) (field_of arena.now (record { start = start; name = length name.now; value = len })) }
 {
-    if !whole {
+    let Some(value) = value else {
         return arena::is_at(arena, start, name);
-    }
+    };
     if len != value.len() {
         return false;
     }
@@ -188,36 +177,4 @@ fn stands(arena: &[u8], start: usize, len: usize, name: &[u8], value: &[u8], who
         return false;
     }
     arena::is_at(arena, start + name.len(), value)
-}
-
-// The latest entry of a name and, where the whole field is looked for, of a value. In a short arena there is none.
-pub fn newest<'a>(
-    arena: &[u8],
-    starts: &'a [u16; SLOTS],
-    names: &'a [u16; SLOTS],
-    values: &'a [u16; SLOTS],
-    dropped: usize,
-    inserted: usize,
-    name: &[u8],
-    value: &[u8],
-    whole: bool,
-) -> Latest
-    ensures { latest result ≡ cond (long_enough arena.now)
-        (last_of (matches name.now value.now whole) (map (field_of arena.now) (between starts.now names.now values.now dropped inserted)))
-        none }
-{
-    if arena.len() < RING {
-        return Latest::Nothing;
-    }
-    let mut k = minus(inserted, dropped);
-    while 0 < k {
-        k -= 1;
-        let i = (dropped + k) % SLOTS;
-        if wide(names[i]) == name.len() {
-            if stands(arena, wide(starts[i]), wide(values[i]), name, value, whole) {
-                return Latest::At(k);
-            }
-        }
-    }
-    Latest::Nothing
 }

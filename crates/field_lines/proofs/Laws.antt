@@ -1,15 +1,34 @@
--- Laws of a field with an entry's strings, which stand in no section. Assumes nothing.
-use mathlib.Core.Path.{◌≡◌, refl}
+-- Laws of the field of a line, with any way to find an entry whose strings stand in no section. Assumes nothing.
+use mathlib.Core.Path.{◌≡◌, refl, sym}
 use mathlib.Core.List.{List, []}
 use Prim.Native.Nat.{ℕ, ◌+◌, ◌≤◌, ◌<◌}
 use native.Mathlib.Omega.{arith}
 use lib.ListN.{length}
-use Rattle.answers.specs.Answer.{done, and_then}
+use Rattle.std.specs.Prelude.{Result, Ok, Err}
+use Rattle.answers.specs.Answer.{Answer, done, and_then}
+use Rattle.answers.specs.declared.Refusal.{Refusal}
+use Rattle.block.specs.Lines.{line_at, line_read}
+use Rattle.block.specs.declared.FieldLine.{FieldLine}
+use Rattle.block.specs.declared.FieldLine.TheVariants.{Indexed, Named, Literal}
+use Rattle.block.proofs.Found.{line_lies}
+use Rattle.field.specs.Field.{Field}
 use Rattle.instructions.specs.Instruction.{stretch}
-use Rattle.line_entries.specs.declared.EntryRead.{EntryRead}
+use Rattle.line_entries.specs.declared.Entry.{Entry}
 use Rattle.line_entries.specs.declared.Text.{Text}
-use Rattle.field_lines.specs.Line.{text_in, TextInside, field_read, FieldInside, entry_read, EntryInside, NotStored, EntryFixed}
-use Rattle.field_lines.specs.declared.FieldRead.{FieldRead}
+use Rattle.line_writing.specs.declared.Reference.{Reference}
+use Rattle.field_lines.specs.Line.{
+  text_in,
+  TextInside,
+  field_of_line,
+  field_read,
+  whole_field,
+  named_field,
+  FieldFrom,
+  FieldInside,
+  entry_read,
+  EntryInside,
+}
+use Rattle.field_lines.specs.declared.FieldAt.{FieldAt}
 
 -- ---- a string that stands in no section
 
@@ -25,27 +44,49 @@ text_same s a (Text.Stored p n) h = refl
 
 -- ---- a field with an entry's strings
 
-module _ (e : EntryRead) (n v : Text) (is : e ≡ EntryRead.Entry n v) (inside : EntryInside e) (next : ℕ) where
-  strings : TextInside 0 n × TextInside 0 v
-  strings = rw is at inside
+whole_read : (s a : List ℕ) (e : ℕ) (x : Result Entry Refusal) → EntryInside x
+    → field_read s a (whole_field e x) ≡ and_then (entry_read a x) (λ f. done (record { field = f; next = e }))
+whole_read s a e (Ok x) h = rw (text_same s a x.name h.0, text_same s a x.value h.1)
+whole_read s a e (Err r) h = refl
 
-  pub indexed_read : (s a : List ℕ)
-      → field_read s a (FieldRead.Field n v next) ≡ and_then (entry_read a e) (λ f. done (record { field = f; next = next }))
-  indexed_read s a = rw (is, text_same s a n strings.0, text_same s a v strings.1)
+named_read : (s a : List ℕ) (v n e : ℕ) (x : Result Entry Refusal) → EntryInside x
+    → field_read s a (named_field v n e x)
+    ≡ and_then (entry_read a x) (λ f. done (record { field = record { name = f.name; value = stretch s v n }; next = e }))
+named_read s a v n e (Ok x) h = rw (text_same s a x.name h.0)
+named_read s a v n e (Err r) h = refl
 
-  pub indexed_inside : (s : List ℕ) (at : ℕ) → at < next → next ≤ length s → FieldInside s at (FieldRead.Field n v next)
-  indexed_inside s at past within = (text_inside (length s) n strings.0, text_inside (length s) v strings.1, past, within)
+whole_inside : (s : List ℕ) (at e : ℕ) (x : Result Entry Refusal) → EntryInside x → at < e → e ≤ length s
+    → FieldInside s at (whole_field e x)
+whole_inside s at e (Ok x) h past within =
+    (text_inside (length s) x.name h.0, text_inside (length s) x.value h.1, past, within)
+whole_inside s at e (Err r) h past within = tt
 
-  module _ (p k : ℕ) where
-    pub named_read : (s a : List ℕ)
-        → field_read s a (FieldRead.Field n (Text.Input p k) next)
-        ≡ and_then (entry_read a e) (λ f. done (record { field = record { name = f.name; value = stretch s p k }; next = next }))
-    named_read s a = rw (is, text_same s a n strings.0)
+named_inside : (s : List ℕ) (at v n e : ℕ) (x : Result Entry Refusal) → EntryInside x → v + n ≤ length s → at < e → e ≤ length s
+    → FieldInside s at (named_field v n e x)
+named_inside s at v n e (Ok x) h value past within = (text_inside (length s) x.name h.0, value, past, within)
+named_inside s at v n e (Err r) h value past within = tt
 
-    pub named_inside : (s : List ℕ) (at : ℕ) → p + k ≤ length s → at < next → next ≤ length s
-        → FieldInside s at (FieldRead.Field n (Text.Input p k) next)
-    named_inside s at value past within = (text_inside (length s) n strings.0, value, past, within)
+-- ---- the field of a line
 
--- an entry with no string in an arena
-pub entry_fixed : (e : EntryRead) (n v : Text) → e ≡ EntryRead.Entry n v → EntryFixed e → NotStored n × NotStored v
-entry_fixed e n v q h = rw q at h
+-- an entry that was found for a reference
+pub record Finds (find : List ℕ → Reference → Answer Field) (r : Reference) (x : Result Entry Refusal) : Type 0 where
+  pub by_index : (a : List ℕ) → entry_read a x ≡ find a r
+  pub inside : EntryInside x
+
+module _ (find : List ℕ → Reference → Answer Field) (P : Reference → Result Entry Refusal → Type 0)
+    (finds : (r : Reference) (x : Result Entry Refusal) → P r x → Finds find r x) where
+  pub line_field : (s a : List ℕ) (l : FieldLine) (f : Result FieldAt Refusal) → FieldFrom P l f
+      → field_read s a f ≡ and_then (line_read (Ok l)) (field_of_line (find a) s)
+  line_field s a (Indexed r e) f (x, p, q) = rw (q, whole_read s a e x (finds r x p).inside, (finds r x p).by_index a)
+  line_field s a (Named r v n e) f (x, p, q) = rw (q, named_read s a v n e x (finds r x p).inside, (finds r x p).by_index a)
+  line_field s a (Literal p m q n e) f h = rw h
+
+  pub line_inside : (s : List ℕ) (at : ℕ) (l : FieldLine) (f : Result FieldAt Refusal) → line_read (Ok l) ≡ line_at s at
+      → FieldFrom P l f → FieldInside s at f
+  line_inside s at (Indexed r e) f h (x, p, q) =
+      let lies = line_lies s at _ (sym h) in
+      rw q (whole_inside s at e x (finds r x p).inside lies.0 lies.1)
+  line_inside s at (Named r v n e) f h (x, p, q) =
+      let lies = line_lies s at _ (sym h) in
+      rw q (named_inside s at v n e x (finds r x p).inside lies.0 lies.1 lies.2)
+  line_inside s at (Literal p m q n e) f h g = rw g (line_lies s at _ (sym h))

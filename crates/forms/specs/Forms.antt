@@ -1,4 +1,4 @@
--- Document 01: "one short table of bit pattern and prefix width" covers the encoder's four instructions (RFC 9204 4.3), the decoder's
+-- The specification: "one short table of bit pattern and prefix width" covers the encoder's four instructions (RFC 9204 4.3), the decoder's
 -- three (4.4) and the five field lines (4.5).
 use Rattle.std.specs.Prelude.{Bool, true, false, cond, ℕ, ◌+◌, ◌/◌, ◌^◌, ltb, eqb}
 use Rattle.std.specs.Int.Bits.{bit_and}

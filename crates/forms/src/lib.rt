@@ -54,7 +54,7 @@ pub struct Head {
     pub flags: u8,
 }
 
-// Pattern, mask and width for each kind, in their order.
+// Pattern, mask and width for each kind, in their order: a constant array of bytes is a form that the user names.
 const FORMS: [u8; 36] = [
     // Duplicate
     0b00000000, 0b11100000, 5,
@@ -82,7 +82,7 @@ const FORMS: [u8; 36] = [
     0b10000000, 0b10000000, 6,
 ];
 
-// The place of a kind among the twelve.
+// The place of a kind among the twelve, in that array.
 fn row(kind: Kind) -> usize
     ensures { (result ≡ row_of kind) × (result < 12) }
 {

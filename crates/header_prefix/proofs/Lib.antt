@@ -1,5 +1,3 @@
-pub mod Bases
 pub mod Cases
 pub mod Counts
-pub mod Prefixes
 pub mod Recovers

@@ -1,17 +1,17 @@
--- The section prefix of RFC 9204 4.5.1: the required insert count, the base, and the order in which document 01 refuses.
-use Rattle.std.specs.Prelude.{Bool, true, false, cond, List, ℕ, ◌+◌, ◌-◌, ◌*◌, ◌/◌, ◌^◌, leb, ltb, eqb}
+-- The section prefix of RFC 9204 4.5.1: the required insert count, the base, and the order of the refusals.
+use Rattle.std.specs.Prelude.{Some, None, Option as Maybe, Bool, true, false, cond, List, ℕ, ◌+◌, ◌-◌, ◌*◌, ◌/◌, ◌^◌, leb, ltb, eqb}
 use Rattle.std.proofs.Math.Option.{Option, some, none}
 use Rattle.answers.specs.Answer.{Answer, done, refused, and_then}
 use Rattle.answers.specs.declared.Refusal.TheVariants.{MissingRefs, BadBaseIndex, BadInsertCount, BadCall}
 use Rattle.field.specs.Field.{overhead}
 use Rattle.prefix_int.specs.Integer.{int_at}
 use Rattle.ring.specs.Ring.{largest_count}
-use Rattle.header_prefix.specs.declared.BaseRead.{BaseRead}
-use Rattle.header_prefix.specs.declared.PrefixRead.{PrefixRead}
+-- a prefix that was read
+use Rattle.header_prefix.specs.declared.Prefix.{Prefix}
 
 -- ---- 4.5.1.1, the required insert count
 
--- "MaxEntries = floor(MaxTableCapacity / 32)"; document 01: "with MaxEntries the capacity in force / 32, rounded down"
+-- "MaxEntries = floor(MaxTableCapacity / 32)"; "with MaxEntries the capacity in force / 32, rounded down"
 abbrev pub max_entries : ℕ → ℕ
 max_entries capacity = capacity / overhead
 
@@ -37,6 +37,11 @@ abbrev pub not_zero : Option ℕ → Option ℕ
 not_zero none = none
 not_zero (some r) = cond (eqb r 0) none (some r)
 
+-- a count as a call gives it
+abbrev pub given : Maybe ℕ → Option ℕ
+given (Some r) = some r
+given None = none
+
 -- none where the RFC gives no count
 unfoldable pub required_count : ℕ → ℕ → ℕ → Option ℕ
 required_count total capacity encoded =
@@ -58,16 +63,7 @@ unfoldable pub base_of : ℕ → Bool → ℕ → Answer ℕ
 base_of required true delta = cond (leb required delta) (refused BadBaseIndex) (done (required - delta - 1))
 base_of required false delta = cond (ltb largest_base (required + delta)) (refused BadBaseIndex) (done (required + delta))
 
-abbrev pub base_found : BaseRead → Answer ℕ
-base_found (BaseRead.Base b) = done b
-base_found (BaseRead.Refused r) = refused r
-
 -- ---- the prefix
-
-pub record Prefix : Type 0 where
-  pub required : ℕ
-  pub base : ℕ
-  pub next : ℕ
 
 -- "13: required count above inserted"
 abbrev pub not_missing : ℕ → ℕ → ℕ → ℕ → Answer Prefix
@@ -87,7 +83,3 @@ prefix_at s at total capacity =
     (and_then (int_at s at 8)
     (λ c. and_then (int_at s c.next 7)
     (λ d. prefix_of total (eqb d.flags 1) d.value d.next (required_count total capacity c.value))))
-
-abbrev pub prefix_read : PrefixRead → Answer Prefix
-prefix_read (PrefixRead.Prefix r b e) = done (record { required = r; base = b; next = e })
-prefix_read (PrefixRead.Refused r) = refused r

@@ -1,5 +1,5 @@
 -- The instructions of the encoder stream, RFC 9204 4.3, with the strings that they carry.
-use Rattle.std.specs.Prelude.{Bool, List, ℕ, ◌+◌, ◌<◌, ◌≤◌, length, get_or, take, drop}
+use Rattle.std.specs.Prelude.{Result, Ok, Err, Option as Maybe, Some, None, Bool, List, ℕ, ◌+◌, ◌<◌, ◌≤◌, length, get_or, take, drop}
 use Rattle.std.proofs.Math.Option.{Option, some, none}
 use Rattle.answers.specs.Answer.{Answer, done, refused}
 use Rattle.forms.specs.Forms.{encoder_kind}
@@ -12,9 +12,13 @@ use Rattle.forms.specs.declared.EncoderInstruction.TheVariants.{
 }
 use Rattle.forms.specs.declared.Kind.TheVariants.{Encoder}
 use Rattle.running.specs.Run.{Whole, found}
-use Rattle.stream.specs.Instructions.{OneInteger, integer_at, NameRef, name_ref_at, Literal, literal_at}
-use Rattle.instructions.specs.declared.InstructionRead.{InstructionRead}
+use Rattle.stream.specs.Instructions.{integer_at, name_ref_at, literal_at}
+use Rattle.stream.specs.declared.Literal.{Literal}
+use Rattle.stream.specs.declared.NameRef.{NameRef}
+use Rattle.stream.specs.declared.OneInteger.{OneInteger}
 use Rattle.instructions.specs.declared.Parsed.{Parsed}
+use Rattle.answers.specs.declared.Refusal.{Refusal}
+use Rattle.running.specs.declared.Whole.{Whole as CodeWhole}
 
 pub data Instruction : Type 0 where
   duplicate : ℕ → Instruction
@@ -57,10 +61,10 @@ parsed s (Parsed.Capacity c) = capacity c
 parsed s (Parsed.Literal p m q n) = literal (stretch s p m) (stretch s q n)
 parsed s (Parsed.NameRef t i q n) = name_ref t i (stretch s q n)
 
-abbrev pub instruction_read : List ℕ → InstructionRead → Answer (Option (Whole Instruction))
-instruction_read s (InstructionRead.Whole i e) = done (some (record { instruction = parsed s i; next = e }))
-instruction_read s InstructionRead.Cut = done none
-instruction_read s (InstructionRead.Refused r) = refused r
+abbrev pub instruction_read : List ℕ → Result (Maybe (CodeWhole Parsed)) Refusal → Answer (Option (Whole Instruction))
+instruction_read s (Ok (Some w)) = done (some (record { instruction = parsed s w.instruction; next = w.next }))
+instruction_read s (Ok None) = done none
+instruction_read s (Err r) = refused r
 
 -- the strings lie in the slice
 abbrev pub Inside : ℕ → Parsed → Type 0
@@ -70,7 +74,7 @@ Inside m (Parsed.Literal p k q n) = (p + k ≤ m) × (q + n ≤ m)
 Inside m (Parsed.NameRef t i q n) = q + n ≤ m
 
 -- an instruction has a byte at least, and ends in the slice
-abbrev pub Within : List ℕ → ℕ → InstructionRead → Type 0
-Within s at (InstructionRead.Whole i e) = Inside (length s) i × (at < e) × (e ≤ length s)
-Within s at InstructionRead.Cut = Unit {0}
-Within s at (InstructionRead.Refused r) = Unit {0}
+abbrev pub Within : List ℕ → ℕ → Result (Maybe (CodeWhole Parsed)) Refusal → Type 0
+Within s at (Ok (Some w)) = Inside (length s) w.instruction × (at < w.next) × (w.next ≤ length s)
+Within s at (Ok None) = Unit {0}
+Within s at (Err r) = Unit {0}

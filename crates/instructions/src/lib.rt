@@ -1,4 +1,4 @@
-// The instructions of the encoder stream, RFC 9204 4.3, by the kind that their first byte gives.
+// The instructions of the encoder stream, RFC 9204 4.3, by the kind that their first byte gives. A reader answers None where its bytes are cut.
 #![tactic(auto)]
 
 ghost use Rattle.std.specs.Prelude.{◌≡◌};
@@ -12,9 +12,9 @@ ghost use Rattle.instructions.specs.Instruction.{of_kind, instruction_at, instru
 
 use answers::Refusal;
 use forms::{EncoderInstruction, Kind};
-use stream::{IntegerRead, LiteralRead, NameRefRead};
+use running::Whole;
 
-// An instruction: its numbers, and where its strings stand.
+// An instruction: its numbers, and its strings' places as in `prefix_string::Text`. The flag is T of 4.3.2.
 #[derive(Clone, Copy)]
 pub enum Parsed {
     Duplicate(usize),
@@ -33,106 +33,81 @@ pub enum Parsed {
     },
 }
 
-// An instruction and the position past it.
-#[derive(Clone, Copy)]
-pub enum InstructionRead {
-    Whole { parsed: Parsed, next: usize },
-    Cut,
-    Refused(Refusal),
-}
-
 // A duplicate.
-fn read_duplicate(s: &[u8], at: usize) -> InstructionRead
+#[tactic(auto, unfolding(crate::specs::Instruction::of_kind))]
+fn read_duplicate(s: &[u8], at: usize) -> Result<Option<Whole<Parsed>>, Refusal>
     ensures { (instruction_read s.now result ≡ of_kind s.now at Duplicate) × Within s.now at result }
 {
-    let i = stream::read_integer(s, at, Kind::Encoder(EncoderInstruction::Duplicate));
-    match i {
-        IntegerRead::Cut => InstructionRead::Cut,
-        IntegerRead::Refused(why) => InstructionRead::Refused(why),
-        IntegerRead::Integer { value, next } => InstructionRead::Whole {
-            parsed: Parsed::Duplicate(value as usize),
-            next,
-        },
-    }
+    let kind = Kind::Encoder(EncoderInstruction::Duplicate);
+    let Some(index) = stream::read_integer(s, at, kind)? else {
+        return Ok(None);
+    };
+    Ok(Some(Whole {
+        instruction: Parsed::Duplicate(index.value as usize),
+        next: index.next,
+    }))
 }
 
-// A capacity.
-fn read_capacity(s: &[u8], at: usize) -> InstructionRead
+// A capacity. It has a reader beside the duplicate's: a variant handed in as a function would ask for a promise of its own.
+#[tactic(auto, unfolding(crate::specs::Instruction::of_kind))]
+fn read_capacity(s: &[u8], at: usize) -> Result<Option<Whole<Parsed>>, Refusal>
     ensures { (instruction_read s.now result ≡ of_kind s.now at DynamicTableSizeUpdate) × Within s.now at result }
 {
-    let i = stream::read_integer(
-        s,
-        at,
-        Kind::Encoder(EncoderInstruction::DynamicTableSizeUpdate),
-    );
-    match i {
-        IntegerRead::Cut => InstructionRead::Cut,
-        IntegerRead::Refused(why) => InstructionRead::Refused(why),
-        IntegerRead::Integer { value, next } => InstructionRead::Whole {
-            parsed: Parsed::Capacity(value as usize),
-            next,
-        },
-    }
+    let kind = Kind::Encoder(EncoderInstruction::DynamicTableSizeUpdate);
+    let Some(capacity) = stream::read_integer(s, at, kind)? else {
+        return Ok(None);
+    };
+    Ok(Some(Whole {
+        instruction: Parsed::Capacity(capacity.value as usize),
+        next: capacity.next,
+    }))
 }
 
 // An insert with both strings.
-fn read_literal(s: &[u8], at: usize) -> InstructionRead
+#[tactic(auto, unfolding(crate::specs::Instruction::of_kind))]
+fn read_literal(s: &[u8], at: usize) -> Result<Option<Whole<Parsed>>, Refusal>
     ensures { (instruction_read s.now result ≡ of_kind s.now at InsertWithoutNameRef) × Within s.now at result }
 {
-    let i = stream::read_literal(s, at);
-    match i {
-        LiteralRead::Cut => InstructionRead::Cut,
-        LiteralRead::Refused(why) => InstructionRead::Refused(why),
-        LiteralRead::Literal {
-            name,
-            name_len,
-            value,
-            value_len,
-            next,
-        } => InstructionRead::Whole {
-            parsed: Parsed::Literal {
-                name,
-                name_len,
-                value,
-                value_len,
-            },
-            next,
+    let Some(literal) = stream::read_literal(s, at)? else {
+        return Ok(None);
+    };
+    Ok(Some(Whole {
+        instruction: Parsed::Literal {
+            name: literal.name,
+            name_len: literal.name_len,
+            value: literal.value,
+            value_len: literal.value_len,
         },
-    }
+        next: literal.next,
+    }))
 }
 
 // An insert with a name reference.
-fn read_name_ref(s: &[u8], at: usize) -> InstructionRead
+#[tactic(auto, unfolding(crate::specs::Instruction::of_kind))]
+fn read_name_ref(s: &[u8], at: usize) -> Result<Option<Whole<Parsed>>, Refusal>
     ensures { (instruction_read s.now result ≡ of_kind s.now at InsertWithNameRef) × Within s.now at result }
 {
-    let i = stream::read_name_ref(s, at);
-    match i {
-        NameRefRead::Cut => InstructionRead::Cut,
-        NameRefRead::Refused(why) => InstructionRead::Refused(why),
-        NameRefRead::NameRef {
-            is_static,
-            index,
-            value,
-            value_len,
-            next,
-        } => InstructionRead::Whole {
-            parsed: Parsed::NameRef {
-                is_static,
-                index: index as usize,
-                value,
-                value_len,
-            },
-            next,
+    let Some(reference) = stream::read_name_ref(s, at)? else {
+        return Ok(None);
+    };
+    Ok(Some(Whole {
+        instruction: Parsed::NameRef {
+            is_static: reference.is_static,
+            index: reference.index as usize,
+            value: reference.value,
+            value_len: reference.value_len,
         },
-    }
+        next: reference.next,
+    }))
 }
 
 // The instruction at a position.
-pub fn read_instruction(s: &[u8], at: usize) -> InstructionRead
+#[tactic(auto, unfolding(crate::specs::Instruction::instruction_at))]
+pub fn read_instruction(s: &[u8], at: usize) -> Result<Option<Whole<Parsed>>, Refusal>
     ensures { (instruction_read s.now result ≡ instruction_at s.now at) × Within s.now at result }
 {
     if s.len() <= at {
-        return InstructionRead::Cut;
+        return Ok(None);
     }
     let kind = forms::encoder_kind(s[at]);
     match kind {

@@ -3,13 +3,12 @@ use mathlib.Core.Path.{◌≡◌, refl, ap, ◌∙◌, subst}
 use mathlib.Core.List.{List, ◌++◌}
 use Prim.Native.Nat.{ℕ, ◌+◌, ◌≤◌}
 use native.Mathlib.Omega.{arith}
+use Rattle.std.specs.Prelude.{Result, Ok, Err}
 use lib.ListN.{length, drop}
 use lib.Seq.{sets}
-use Rattle.answers.specs.Answer.{Answer, done, refused, and_then}
-use Rattle.answers.specs.Write.{written, fitted, left, Writes}
+use Rattle.answers.specs.Answer.{Answer, done, refused, and_then, answered}
+use Rattle.answers.specs.Write.{fitted, left, Writes}
 use Rattle.answers.specs.declared.Refusal.{Refusal}
-use Rattle.answers.specs.declared.Written.{Written}
-use Rattle.answers.specs.declared.Written.TheVariants.{Next, Refused}
 use Rattle.answers.proofs.Write.{wrote, there, writes_sets}
 
 -- what a size tells: there are bytes to write, and so many
@@ -34,15 +33,15 @@ module _ (w : Answer (List ℕ)) where
       go (refused r') p q = let z = q in cc
 
 -- it answers the position past its bytes, which it stored
-pub writes_stored : (w : Answer (List ℕ)) (bytes l : List ℕ) (at : ℕ) (r : Written) (m : List ℕ) → w ≡ done bytes
-    → at + length bytes ≤ length l → Writes w l at r m → (r ≡ Next (at + length bytes)) × (m ≡ sets l at bytes)
+pub writes_stored : (w : Answer (List ℕ)) (bytes l : List ℕ) (at : ℕ) (r : Result ℕ Refusal) (m : List ℕ) → w ≡ done bytes
+    → at + length bytes ≤ length l → Writes w l at r m → (r ≡ Ok (at + length bytes)) × (m ≡ sets l at bytes)
 writes_stored w bytes l at r m given room writes =
     let s = writes_sets bytes l at r m room (subst (λ (x : Answer (List ℕ)). Writes x l at r m) given writes) in
     (next r (at + length bytes) s.0, s.1)
   where
-    next : (r : Written) (e : ℕ) → written r ≡ done e → r ≡ Next e
-    next (Next d) e h = cc
-    next (Refused q) e h = let z : ◌≡◌ {A = ℕ} 0 1 = cc in absurd (omega arith)
+    next : (r : Result ℕ Refusal) (e : ℕ) → answered r ≡ done e → r ≡ Ok e
+    next (Ok d) e h = cc
+    next (Err q) e h = let z : ◌≡◌ {A = ℕ} 0 1 = cc in absurd (omega arith)
 
 -- what a write that was done leaves: its bytes, from the position on, up to where it ends
 pub record Leaves (w : Answer (List ℕ)) (l : List ℕ) (at e : ℕ) : Type 0 where

@@ -2,8 +2,6 @@
 use Rattle.std.specs.Prelude.{Bool, false, cond, List, [], ◌∷◌, ℕ, zero, suc, ◌+◌, ◌-◌, ◌*◌, ◌/◌, ◌%◌, ◌^◌, ltb, length}
 use Rattle.answers.specs.Answer.{Answer, done, refused, and_then}
 use Rattle.answers.specs.declared.Refusal.TheVariants.{BadCall, CountTooLarge}
-use Rattle.int_writing.specs.declared.IntSize.{IntSize}
-use Rattle.int_writing.specs.declared.IntSize.TheVariants.{Bytes}
 
 -- "while I >= 128: encode I % 128 + 128; I = I / 128. encode I", with at most k octets before the last
 unfoldable pub spell : ℕ → ℕ → List ℕ
@@ -25,7 +23,3 @@ int_bytes n f v = cond (good_call n f) (cond (ltb v (2 ^ 63)) (done (encode n f 
 -- "how many bytes an integer takes is answered before any is written"
 abbrev pub size_of : ℕ → ℕ → Answer ℕ
 size_of n v = and_then (int_bytes n 0 v) (λ bytes. done (length bytes))
-
-abbrev pub int_size : IntSize → Answer ℕ
-int_size (Bytes n) = done n
-int_size (IntSize.Refused r) = refused r

@@ -3,17 +3,11 @@
 
 ghost use Rattle.std.specs.Prelude.{◌≡◌, ◌+◌, ◌-◌, ◌*◌, ◌^◌, ◌≤◌, ◌<◌, length};
 ghost use Rattle.std.proofs.lemmas.List.Edits.{sets};
+ghost use Rattle.answers.specs.Answer.{answered};
 ghost use Rattle.answers.specs.Write.{Writes};
-ghost use Rattle.int_writing.specs.Octets.{spell, encode, int_bytes, good_call, size_of, int_size};
+ghost use Rattle.int_writing.specs.Octets.{spell, encode, int_bytes, good_call, size_of};
 
-use answers::{Refusal, Written};
-
-// How many bytes an integer takes.
-#[derive(Clone, Copy)]
-pub enum IntSize {
-    Bytes(usize),
-    Refused(Refusal),
-}
+use answers::Refusal;
 
 // The first value that no writer takes.
 const VALUE_LIMIT: u64 = 0x8000_0000_0000_0000;
@@ -64,16 +58,16 @@ pub fn call_ok(width: u32, flags: u8) -> bool
 }
 
 // How many bytes an integer takes, before any is written.
-pub fn size(value: u64, width: u32) -> IntSize
-    ensures { int_size result ≡ size_of width value }
+pub fn size(value: u64, width: u32) -> Result<usize, Refusal>
+    ensures { answered result ≡ size_of width value }
 {
     if !call_ok(width, 0) {
-        return IntSize::Refused(Refusal::BadCall);
+        return Err(Refusal::BadCall);
     }
     if VALUE_LIMIT <= value {
-        return IntSize::Refused(Refusal::CountTooLarge);
+        return Err(Refusal::CountTooLarge);
     }
-    IntSize::Bytes(bytes_of(value, width))
+    Ok(bytes_of(value, width))
 }
 
 // The groups of a rest, written from a position.
@@ -83,6 +77,7 @@ fn put(buf: &mut [u8], from: usize, rest: u64)
 {
     let mut at = from;
     let mut i = rest;
+    // RFC 7541 5.1's own loop: it lowers a value, and the position goes with that
     while 128 <= i {
         buf[at] = (i % 128 + 128) as u8;
         i /= 128;
@@ -106,23 +101,23 @@ fn store(buf: &mut [u8], at: usize, width: u32, flags: u64, value: u64)
     put(buf, at + 1, value - top);
 }
 
-// An integer with flags above its prefix, in the shortest form.
-pub fn write(buf: &mut [u8], at: usize, width: u32, flags: u8, value: u64) -> Written
+// An integer with flags above its prefix, in the shortest form: the width and the flags are whatever the caller says.
+pub fn write(buf: &mut [u8], at: usize, width: u32, flags: u8, value: u64) -> Result<usize, Refusal>
     ensures { Writes (int_bytes width flags value) buf.old at result buf.new }
 {
     if !call_ok(width, flags) {
-        return Written::Refused(Refusal::BadCall);
+        return Err(Refusal::BadCall);
     }
     if VALUE_LIMIT <= value {
-        return Written::Refused(Refusal::CountTooLarge);
+        return Err(Refusal::CountTooLarge);
     }
     let n = bytes_of(value, width);
     if buf.len() < n {
-        return Written::Refused(Refusal::OutputFull);
+        return Err(Refusal::OutputFull);
     }
     if buf.len() - n < at {
-        return Written::Refused(Refusal::OutputFull);
+        return Err(Refusal::OutputFull);
     }
     store(buf, at, width, flags as u64, value);
-    Written::Next(at + n)
+    Ok(at + n)
 }

@@ -1,9 +1,9 @@
 -- The entry that a reference of a line names, RFC 9204 3.2.5, 3.2.6: on a table, and with no table.
-use Rattle.std.specs.Prelude.{cond, List, [], map, ℕ, ◌+◌, ◌≤◌, ◌<◌, ltb, length, get_or}
+use Rattle.std.specs.Prelude.{Result, Ok, Err, cond, List, [], ℕ, ◌+◌, ◌≤◌, ltb, length, get_or}
+use Rattle.answers.specs.declared.Refusal.{Refusal}
 use Rattle.answers.specs.Answer.{Answer, done, refused, and_then}
 use Rattle.answers.specs.declared.Refusal.TheVariants.{InvalidStaticIndex, MissingRefs}
 use Rattle.arena.specs.Ring.{ring_read}
-use Rattle.entries.specs.Entry.{between, field_of}
 use Rattle.field.specs.Field.{Field}
 use Rattle.instructions.specs.Instruction.{stretch}
 use Rattle.line_writing.specs.declared.Reference.{Reference}
@@ -13,10 +13,7 @@ use Rattle.ring.specs.declared.Ring.{Ring}
 use Rattle.static_table.specs.AppendixA.{appendix_a}
 use Rattle.static_table.specs.Static.{no_field, laid}
 use Rattle.vas.specs.Vas.{base_relative_at, post_base_at}
-use Rattle.vas.specs.declared.Located.{Located}
-use Rattle.vas.specs.declared.Located.TheVariants.{At}
-use Rattle.vas.specs.declared.VirtualAddressSpace.{VirtualAddressSpace}
-use Rattle.line_entries.specs.declared.EntryRead.{EntryRead}
+use Rattle.line_entries.specs.declared.Entry.{Entry}
 use Rattle.line_entries.specs.declared.Text.{Text}
 
 -- "4 InvalidStaticIndex: 99 or more"
@@ -58,32 +55,21 @@ TextInside m (Text.Input p n) = p + n ≤ m
 TextInside m (Text.Fixed p n) = p + n ≤ length (laid appendix_a)
 TextInside m (Text.Stored p n) = Unit {0}
 
-abbrev pub entry_read : List ℕ → EntryRead → Answer Field
-entry_read a (EntryRead.Entry n v) = done (record { name = text_in [] a n; value = text_in [] a v })
-entry_read a (EntryRead.Refused r) = refused r
+abbrev pub entry_field : List ℕ → Entry → Field
+entry_field a e = record { name = text_in [] a e.name; value = text_in [] a e.value }
+
+abbrev pub entry_read : List ℕ → Result Entry Refusal → Answer Field
+entry_read a (Ok e) = done (entry_field a e)
+entry_read a (Err r) = refused r
 
 -- an entry's strings stand in no section
-abbrev pub EntryInside : EntryRead → Type 0
-EntryInside (EntryRead.Entry n v) = TextInside 0 n × TextInside 0 v
-EntryInside (EntryRead.Refused r) = Unit {0}
-
--- the entries that are live, by where each one's bytes start and how many its name and its value have, with their strings in the arena
-abbrev pub live_in : List ℕ → List ℕ → List ℕ → VirtualAddressSpace → List ℕ → Live
-live_in starts names values v a =
-    record {
-      fields = map (field_of a) (between starts names values v.dropped v.inserted);
-      inserted = v.inserted;
-      dropped = v.dropped;
-    }
+abbrev pub EntryInside : Result Entry Refusal → Type 0
+EntryInside (Ok e) = TextInside 0 e.name × TextInside 0 e.value
+EntryInside (Err r) = Unit {0}
 
 -- the entries of a ring
 abbrev pub live_of : Ring → List ℕ → Live
 live_of r a = record { fields = fields_of r a; inserted = r.inserted; dropped = r.dropped }
-
--- a position among so many live entries
-abbrev pub PositionLive : ℕ → Located → Type 0
-PositionLive m (At p) = p < m
-PositionLive m (Located.Refused r) = Unit {0}
 
 -- with no table no string stands in an arena
 abbrev pub NotStored : Text → Type 0
@@ -91,6 +77,6 @@ NotStored (Text.Input p n) = Unit {0}
 NotStored (Text.Fixed p n) = Unit {0}
 NotStored (Text.Stored p n) = ⊥
 
-abbrev pub EntryFixed : EntryRead → Type 0
-EntryFixed (EntryRead.Entry n v) = NotStored n × NotStored v
-EntryFixed (EntryRead.Refused r) = Unit {0}
+abbrev pub EntryFixed : Result Entry Refusal → Type 0
+EntryFixed (Ok e) = NotStored e.name × NotStored e.value
+EntryFixed (Err r) = Unit {0}

@@ -5,7 +5,7 @@ ghost use Rattle.std.specs.Prelude.{◌≡◌};
 ghost use Rattle.answers.specs.Write.{Writes};
 ghost use Rattle.line_writing.specs.Bytes.{index_of, indexed_head, named_head, indexed_bytes, named_bytes, literal_bytes};
 
-use answers::Written;
+use answers::Refusal;
 use forms::{Head, HeaderBlockField, Kind};
 
 // Which entry a line names.
@@ -62,7 +62,8 @@ fn named_head(entry: Reference) -> Head
 }
 
 // A line that is one index.
-pub fn write_indexed(buf: &mut [u8], at: usize, field: Reference) -> Written
+#[tactic(auto, unfolding(crate::specs::Bytes::indexed_bytes))]
+pub fn write_indexed(buf: &mut [u8], at: usize, field: Reference) -> Result<usize, Refusal>
     ensures { Writes (indexed_bytes field) buf.old at result buf.new }
 {
     let head = indexed_head(field);
@@ -70,7 +71,13 @@ pub fn write_indexed(buf: &mut [u8], at: usize, field: Reference) -> Written
 }
 
 // A line with a name by its index, and a value.
-pub fn write_named(buf: &mut [u8], at: usize, name: Reference, value: &[u8]) -> Written
+#[tactic(auto, unfolding(crate::specs::Bytes::named_bytes))]
+pub fn write_named(
+    buf: &mut [u8],
+    at: usize,
+    name: Reference,
+    value: &[u8],
+) -> Result<usize, Refusal>
     ensures { Writes (named_bytes name value.now) buf.old at result buf.new }
 {
     let head = named_head(name);
@@ -78,7 +85,8 @@ pub fn write_named(buf: &mut [u8], at: usize, name: Reference, value: &[u8]) -> 
 }
 
 // A line with both strings.
-pub fn write_literal(buf: &mut [u8], at: usize, name: &[u8], value: &[u8]) -> Written
+#[tactic(auto, unfolding(crate::specs::Bytes::literal_bytes))]
+pub fn write_literal(buf: &mut [u8], at: usize, name: &[u8], value: &[u8]) -> Result<usize, Refusal>
     ensures { Writes (literal_bytes name.now value.now) buf.old at result buf.new }
 {
     let head = forms::head_of(Kind::Line(HeaderBlockField::Literal), false);

@@ -18,32 +18,24 @@ pub struct Listed {
     pub fields: [Field; RECORDS],
 }
 
-// How many of the records are lent.
-fn lent(room: usize) -> usize
-    ensures { result ≡ lent_of room }
-{
-    if room < RECORDS {
-        return room;
-    }
-    RECORDS
-}
+// Two functions, and no generic one over the call that reads: each is that call between a list and a struct.
 
 // `decode_header` with the first `room` of the records, each of which was `fill`.
 pub fn decode_header_listed(
     s: &[u8],
     arena: &[u8],
-    table: Table,
+    table: &Table,
     fill: Field,
     room: usize,
     out: &mut [u8],
 ) -> Listed
-    ensures { Lists (on_table table arena.now) s.now fill (lent_of room) out.old result out.new }
+    ensures { Lists (on_table table.now arena.now) s.now fill (lent_of room) out.old result out.new }
 {
-    let count = lent(room);
+    let count = room.min(RECORDS);
     let mut list = [fill; RECORDS];
     let decoded = decode_header(s, arena, table, &mut list[..count], out);
     Listed {
-        decoded: decoded,
+        decoded,
         fields: list,
     }
 }
@@ -58,11 +50,11 @@ pub fn decode_stateless_listed(
 ) -> Listed
     ensures { Lists (stateless max.bytes) s.now fill (lent_of room) out.old result out.new }
 {
-    let count = lent(room);
+    let count = room.min(RECORDS);
     let mut list = [fill; RECORDS];
     let decoded = decode_stateless(s, max, &mut list[..count], out);
     Listed {
-        decoded: decoded,
+        decoded,
         fields: list,
     }
 }

@@ -1,4 +1,4 @@
--- The bounds of document 01.
+-- The bounds of the specification.
 use Rattle.std.specs.Prelude.{ℕ}
 use Rattle.arena.specs.Ring.{ring}
 

@@ -1,4 +1,4 @@
--- The abstract table of document 01, "How the table behaves".
+-- The abstract table of the specification, "How the table behaves".
 use Rattle.std.specs.Prelude.{Bool, cond, List, [], ◌∷◌, ℕ, ◌+◌, eqb, ltb, length}
 use Rattle.std.proofs.Math.Option.{Option, some, none}
 use Rattle.answers.specs.Answer.{Answer, refused}

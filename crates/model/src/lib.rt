@@ -1,4 +1,4 @@
-// The abstract table of document 01: this crate holds definitions and theorems alone, and the bounds by name.
+// The abstract table of the specification: this crate holds definitions and theorems alone, and the bounds by name.
 #![tactic(auto)]
 
 // Distinct entries of a section.

@@ -12,10 +12,10 @@ use lib.Seq.{get_or-drop}
 use borrow.Author.Tests.{ltb-true, ltb-false}
 use Rattle.answers.specs.Answer.{done, refused}
 use Rattle.answers.specs.declared.Refusal.TheVariants.{BadCall}
-use Rattle.int_writing.proofs.Writing.{call_good}
-use Rattle.prefix_int.specs.Integer.{Integer, good_call, groups, int_from, int_at, spell, encode}
+use Rattle.int_writing.proofs.Writing.{call_good, length_short, length_long}
+use Rattle.prefix_int.specs.Integer.{good_call, groups, int_from, int_at, spell, encode}
+use Rattle.prefix_int.specs.declared.Integer.{Integer}
 use Rattle.prefix_int.proofs.Reading.{digit_add}
-use Rattle.int_writing.proofs.Writing.{length_short, length_long}
 
 same_done : {A : Type 0} (a b : A) → done a ≡ done b → a ≡ b
 same_done a b h = cc

@@ -13,7 +13,8 @@ use borrow.Author.Tests.{lt-ltb, le-ltb, ltb-true, ltb-false}
 use Rattle.answers.specs.Answer.{Answer, done, refused, and_then}
 use Rattle.answers.specs.Write.{fitted, left}
 use Rattle.answers.specs.declared.Refusal.TheVariants.{BadCall, CountTooLarge}
-use Rattle.prefix_int.specs.Integer.{Integer, groups, int_from, int_at, spell, encode, good_call, int_bytes}
+use Rattle.prefix_int.specs.Integer.{groups, int_from, int_at, spell, encode, good_call, int_bytes}
+use Rattle.prefix_int.specs.declared.Integer.{Integer}
 use Rattle.prefix_int.proofs.Reading.{digit_add}
 use Rattle.int_writing.proofs.Writers.{leaves}
 use Rattle.int_writing.proofs.Writing.{Good, call_good, width_call, spell_last, spell_more, spell_fits, encode_short, encode_long}

@@ -2,17 +2,11 @@
 use Rattle.std.specs.Prelude.{cond, List, [], ◌∷◌, ℕ, zero, suc, ◌+◌, ◌-◌, ◌*◌, ◌/◌, ◌%◌, ◌^◌, ltb, drop}
 use Rattle.answers.specs.Answer.{Answer, done, refused}
 use Rattle.answers.specs.declared.Refusal.TheVariants.{UnexpectedEnd, Overflow, BadCall}
-use Rattle.prefix_int.specs.declared.IntRead.{IntRead}
-use Rattle.prefix_int.specs.declared.IntRead.TheVariants.{Int}
+-- an integer that was read: the bits above its prefix, its value, and the position past it
+use Rattle.prefix_int.specs.declared.Integer.{Integer}
 -- the bytes of an integer
 unfoldable pub use Rattle.int_writing.specs.Octets.{spell, encode}
-pub use Rattle.int_writing.specs.Octets.{good_call, int_bytes, size_of, int_size}
-
--- an integer that was read: the bits above its prefix, its value, and the position past it
-pub record Integer : Type 0 where
-  pub flags : ℕ
-  pub value : ℕ
-  pub next : ℕ
+pub use Rattle.int_writing.specs.Octets.{good_call, int_bytes, size_of}
 
 -- "repeat: B = next octet; I = I + (B & 127) * 2^M; M = M + 7; while B & 128 == 128", with at most k octets:
 -- "reading stops with Overflow when the ninth following byte still continues". f: the flags; at: the position of the list's first octet
@@ -36,7 +30,3 @@ int_from n (b ∷ s) at =
 -- "width N is 1 to 8"; another is 22
 abbrev pub int_at : List ℕ → ℕ → ℕ → Answer Integer
 int_at s at n = cond (good_call n 0) (int_from n (drop at s) at) (refused BadCall)
-
-abbrev pub int_read : IntRead → Answer Integer
-int_read (Int f v e) = done (record { flags = f; value = v; next = e })
-int_read (IntRead.Refused r) = refused r

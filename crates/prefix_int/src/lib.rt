@@ -3,69 +3,69 @@
 #![tactic(auto)]
 
 ghost use Rattle.std.specs.Prelude.{◌≡◌, ◌<◌, drop};
-ghost use Rattle.prefix_int.specs.Integer.{groups, int_at, int_read};
+ghost use Rattle.answers.specs.Answer.{answered};
+ghost use Rattle.prefix_int.specs.Integer.{groups, int_at};
 
 use answers::Refusal;
 // The writing half stands in a crate of its own, so that an edit of one half checks that half alone.
-pub use int_writing::{IntSize, call_ok, size, write};
+pub use int_writing::{call_ok, size, write};
 
-// What reading at a position finds.
+// An integer that was read: the bits above its prefix, its value, and the position past it.
 #[derive(Clone, Copy)]
-pub enum IntRead {
-    // The bits above the prefix, the value, and the position past it.
-    Int { flags: u8, value: u64, next: usize },
-    Refused(Refusal),
+pub struct Integer {
+    pub flags: u8,
+    pub value: u64,
+    pub next: usize,
 }
 
 // The groups that follow a full prefix.
-fn rest(s: &[u8], from: usize, flags: u8, first: u64) -> IntRead
+fn rest(s: &[u8], from: usize, flags: u8, first: u64) -> Result<Integer, Refusal>
     requires { first < 256 }
-    ensures { int_read result ≡ groups 9 (drop from s.now) flags from 0 first }
+    ensures { answered result ≡ groups 9 (drop from s.now) flags from 0 first }
 {
     let mut at = from;
     let mut weight: u64 = 1;
     let mut value = first;
-    let mut left: u32 = 9;
-    while 0 < left {
+    // nine groups at most; the position goes with them, since the first may lie past the slice
+    for group in 0..9u32 {
         if s.len() <= at {
-            return IntRead::Refused(Refusal::UnexpectedEnd);
+            return Err(Refusal::UnexpectedEnd);
         }
         let b = s[at] as u64;
         if b < 128 {
-            return IntRead::Int {
+            return Ok(Integer {
                 flags,
                 value: value + b * weight,
                 next: at + 1,
-            };
+            });
         }
         value += (b % 128) * weight;
         weight *= 128;
         at += 1;
-        left -= 1;
     }
-    IntRead::Refused(Refusal::Overflow)
+    Err(Refusal::Overflow)
 }
 
 // The integer at a position, with a prefix of width bits.
-pub fn read(s: &[u8], at: usize, width: u32) -> IntRead
-    ensures { int_read result ≡ int_at s.now at width }
+pub fn read(s: &[u8], at: usize, width: u32) -> Result<Integer, Refusal>
+    ensures { answered result ≡ int_at s.now at width }
 {
     if !call_ok(width, 0) {
-        return IntRead::Refused(Refusal::BadCall);
+        return Err(Refusal::BadCall);
     }
     if s.len() <= at {
-        return IntRead::Refused(Refusal::UnexpectedEnd);
+        return Err(Refusal::UnexpectedEnd);
     }
     let p = 1u64 << width;
     let b = s[at] as u64;
     let flags = (b / p) as u8;
     let low = b % p;
     if low < p - 1 {
-        return IntRead::Int {
+        return Ok(Integer {
             flags,
             value: low,
             next: at + 1,
-        };
+        });
     }
     rest(s, at + 1, flags, p - 1)
 }

@@ -9,11 +9,13 @@ use lib.ListN.{length, get_or}
 use borrow.Author.Tests.{ltb-false, eqb-false}
 use Rattle.answers.specs.Answer.{Answer, done, refused, and_then}
 use Rattle.answers.specs.declared.Refusal.TheVariants.{UnexpectedEnd, HuffmanString, BadCall}
-use Rattle.prefix_int.specs.Integer.{Integer, int_at}
+use Rattle.prefix_int.specs.Integer.{int_at}
+use Rattle.prefix_int.specs.declared.Integer.{Integer}
 use Rattle.prefix_int.proofs.Bounds.{found}
 use Rattle.int_writing.proofs.Writing.{Good}
 use Rattle.text_writing.proofs.Laws.{text_good}
-use Rattle.prefix_string.specs.Text.{Text, h_bit, bytes_after, text_at, good_text}
+use Rattle.prefix_string.specs.Text.{h_bit, bytes_after, text_at, good_text}
+use Rattle.prefix_string.specs.declared.Text.{Text}
 
 -- a string that was read at a position
 pub record FoundText (s : List ℕ) (at n : ℕ) (r : Text) : Type 0 where

@@ -8,7 +8,8 @@ use lib.Seq.{drop_at, take_at, drop-drop}
 use borrow.Author.Tests.{le-ltb, ne_eqb}
 use Rattle.answers.specs.Answer.{Answer, done, and_then}
 use Rattle.answers.specs.Write.{fitted, left}
-use Rattle.prefix_int.specs.Integer.{Integer, int_at, encode}
+use Rattle.prefix_int.specs.Integer.{int_at, encode}
+use Rattle.prefix_int.specs.declared.Integer.{Integer}
 use Rattle.prefix_int.proofs.Bounds.{found}
 use Rattle.prefix_int.proofs.RoundTrip.{read_there}
 use Rattle.int_writing.proofs.Writers.{leaves}

@@ -1,18 +1,13 @@
--- Document 01, "Plain strings: H bit, length, bytes. H set is refused once its byte is seen, before the length." (RFC 7541 5.2)
+-- The specification, "Plain strings: H bit, length, bytes. H set is refused once its byte is seen, before the length." (RFC 7541 5.2)
 use Rattle.std.specs.Prelude.{cond, List, ℕ, ◌+◌, ◌-◌, ◌/◌, ◌%◌, ◌^◌, ltb, leb, eqb, length, get_or}
 use Rattle.answers.specs.Answer.{Answer, done, refused, and_then}
 use Rattle.answers.specs.declared.Refusal.TheVariants.{UnexpectedEnd, HuffmanString, BadCall}
-use Rattle.prefix_int.specs.Integer.{Integer, int_at}
-use Rattle.prefix_string.specs.declared.TextRead.{TextRead}
+use Rattle.prefix_int.specs.Integer.{int_at}
+use Rattle.prefix_int.specs.declared.Integer.{Integer}
+-- a string that was read: the bits above H, where its bytes start, how many there are, and the position past them
+use Rattle.prefix_string.specs.declared.Text.{Text}
 -- the bytes of a string
 pub use Rattle.text_writing.specs.Plain.{good_text, plain, text_bytes, text_size}
-
--- a string that was read: the bits above H, where its bytes start, how many there are, and the position past them
-pub record Text : Type 0 where
-  pub flags : ℕ
-  pub start : ℕ
-  pub len : ℕ
-  pub next : ℕ
 
 -- the bit above a prefix of n bits
 abbrev pub h_bit : ℕ → ℕ → ℕ
@@ -33,7 +28,3 @@ text_at s at n =
     (refused UnexpectedEnd)
     (cond (eqb (h_bit n (get_or s at 0)) 1) (refused HuffmanString) (and_then (int_at s at n) (bytes_after s))))
     (refused BadCall)
-
-abbrev pub text_read : TextRead → Answer Text
-text_read (TextRead.Text f s n e) = done (record { flags = f; start = s; len = n; next = e })
-text_read (TextRead.Refused r) = refused r

@@ -2,26 +2,22 @@
 #![tactic(auto)]
 
 ghost use Rattle.std.specs.Prelude.{◌≡◌, ◌≤◌, eqb};
-ghost use Rattle.answers.specs.Answer.{and_then};
+ghost use Rattle.answers.specs.Answer.{answered, and_then};
 ghost use Rattle.prefix_int.specs.Integer.{int_at};
-ghost use Rattle.prefix_string.specs.Text.{h_bit, bytes_after, text_at, text_read};
+ghost use Rattle.prefix_string.specs.Text.{h_bit, bytes_after, text_at};
 
 use answers::Refusal;
-use prefix_int::IntRead;
 use text_writing::call_ok;
 pub use text_writing::{size, write};
 
-// What reading at a position finds.
+// A string that was read: the bits above H, where its bytes start, how many there are, and the position past them.
+// Two numbers, and no slice of the input: what is read by them is checked and shown by its place.
 #[derive(Clone, Copy)]
-pub enum TextRead {
-    // The bits above H, and the bytes from start on, len of them; next is past them.
-    Text {
-        flags: u8,
-        start: usize,
-        len: usize,
-        next: usize,
-    },
-    Refused(Refusal),
+pub struct Text {
+    pub flags: u8,
+    pub start: usize,
+    pub len: usize,
+    pub next: usize,
 }
 
 // Whether the bit above a prefix of width bits is set.
@@ -33,40 +29,37 @@ fn huffman(b: u8, width: u32) -> bool
 }
 
 // A length at a position, and the bytes that follow it.
-fn plain_at(s: &[u8], at: usize, width: u32) -> TextRead
-    ensures { text_read result ≡ and_then (int_at s.now at width) (bytes_after s.now) }
+fn plain_at(s: &[u8], at: usize, width: u32) -> Result<Text, Refusal>
+    ensures { answered result ≡ and_then (int_at s.now at width) (bytes_after s.now) }
 {
-    let i = prefix_int::read(s, at, width);
-    match i {
-        IntRead::Int { flags, value, next } => {
-            let room = (s.len() - next) as u64;
-            if room < value {
-                return TextRead::Refused(Refusal::UnexpectedEnd);
-            }
-            let len = value as usize;
-            TextRead::Text {
-                flags: flags / 2,
-                start: next,
-                len,
-                next: next + len,
-            }
-        }
-        IntRead::Refused(r) => TextRead::Refused(r),
+    let length = prefix_int::read(s, at, width)?;
+    let start = length.next;
+    let room = (s.len() - start) as u64;
+    if room < length.value {
+        return Err(Refusal::UnexpectedEnd);
     }
+    let len = length.value as usize;
+    Ok(Text {
+        flags: length.flags / 2,
+        start,
+        len,
+        next: start + len,
+    })
 }
 
 // The string at a position, whose length has a prefix of width bits.
-pub fn read(s: &[u8], at: usize, width: u32) -> TextRead
-    ensures { text_read result ≡ text_at s.now at width }
+#[tactic(auto, unfolding(crate::specs::Text::text_at))]
+pub fn read(s: &[u8], at: usize, width: u32) -> Result<Text, Refusal>
+    ensures { answered result ≡ text_at s.now at width }
 {
     if !call_ok(width, 0) {
-        return TextRead::Refused(Refusal::BadCall);
+        return Err(Refusal::BadCall);
     }
     if s.len() <= at {
-        return TextRead::Refused(Refusal::UnexpectedEnd);
+        return Err(Refusal::UnexpectedEnd);
     }
     if huffman(s[at], width) {
-        return TextRead::Refused(Refusal::HuffmanString);
+        return Err(Refusal::HuffmanString);
     }
     plain_at(s, at, width)
 }

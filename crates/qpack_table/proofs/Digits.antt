@@ -1,47 +1,36 @@
--- The library's decimal digits of a number are those of the report. Assumes nothing.
-use mathlib.Core.Path.{◌≡◌, refl, ap}
+-- The decimal digits that the library formats are those of the report. Assumes nothing.
+use mathlib.Core.Path.{◌≡◌, refl, sym, ◌∙◌}
 use mathlib.Core.Bool.{Bool, true, false}
-use mathlib.Core.List.{List, [], ◌∷◌, ◌++◌}
-use Prim.Native.Nat.{ℕ, zero, suc, ◌+◌, ◌-◌, ◌/◌, ◌%◌, ◌^◌, ◌≤◌, ◌<◌}
-use native.Mathlib.Nat.{pow-suc, one-le-pow, pow-le-pow_right}
+use mathlib.Core.List.{List, [], ◌∷◌, ◌++◌, append_assoc, append-nil}
+use Prim.Native.Nat.{ℕ, zero, suc, ◌+◌, ◌/◌, ◌%◌, ◌^◌, ◌<◌}
+use native.Mathlib.Nat.{pow-suc}
 use native.Mathlib.Omega.{arith}
-use lib.Dec.{ltb}
-use borrow.Author.Tests.{lt-ltb, le-ltb, ltb-true, ltb-false}
-use Rattle.io.specs.Digits as io
+use lib.Dec.{ltb, eqb}
+use borrow.Author.Tests.{lt-ltb, ne_eqb, ltb-true, ltb-false}
+use Rattle.std.specs.Fmt as fmt
 use Rattle.qpack_table.specs.Text.{digits, decimal}
 
--- k digits before the last, no fewer than are needed, where up to j are allowed
-same_digits : (k j n : ℕ) → k ≤ j → n < 10 ^ suc k → (0 < k → 10 ^ k ≤ n) → io.last_digits 10 (suc k) n ≡ digits j n
+-- with fuel to spare, the digits of a number before what stands behind them
+onto : (j k n : ℕ) (acc : List ℕ) → j < k → n < 10 ^ suc j → fmt.digits_onto k 10 false n acc ≡ digits j n ++ acc
 unfolding digits
-same_digits zero zero n most below least = rw (lt-ltb (n % 10) 10 (omega arith))
-same_digits zero (suc j) n most below least =
-    let e : n % 10 ≡ n = omega arith in
-    rw (e, lt-ltb n 10 (omega arith))
-same_digits (suc k) zero n most below least = absurd (omega arith)
-same_digits (suc k) (suc j) n most below least =
-    let p = pow-suc 10 (suc k) in
-    let q = pow-suc 10 k in
-    let z = one-le-pow k 10 (omega arith) in
-    let l = least (omega arith) in
-    rw (le-ltb n 10 (omega (arith, q, z, l)), lt-ltb (n % 10) 10 (omega arith))
-    (ap (λ (x : List ℕ). x ++ ((48 + n % 10) ∷ []))
-    (same_digits k j (n / 10) (omega arith) (omega (arith, p)) (λ h. omega (arith, q, l))))
+onto j zero n acc h below = absurd (omega arith)
+onto zero (suc k) n acc h below =
+    let none : n / 10 ≡ 0 = omega arith in
+    rw (none, lt-ltb (n % 10) 10 (omega arith)) refl
+onto (suc j) (suc k) n acc h below = go (ltb n 10) refl (λ m a low. onto j k m a (omega arith) low)
+  where
+    go : (b : Bool) → ltb n 10 ≡ b → ((m : ℕ) (a : List ℕ) → m < 10 ^ suc j → fmt.digits_onto k 10 false m a ≡ digits j m ++ a)
+        → fmt.digits_onto (suc k) 10 false n acc ≡ digits (suc j) n ++ acc
+    go true e rest =
+        let none : n / 10 ≡ 0 = omega (arith, ltb-true n 10 e) in
+        let all : n % 10 ≡ n = omega (arith, ltb-true n 10 e) in
+        rw (none, all, e) refl
+    go false e rest =
+        let p = pow-suc 10 (suc j) in
+        let more : eqb (n / 10) 0 ≡ false = ne_eqb (n / 10) 0 (λ z. omega (arith, ltb-false n 10 e)) in
+        rw (more, lt-ltb (n % 10) 10 (omega arith), e)
+        (rest (n / 10) ((48 + n % 10) ∷ acc) (omega (arith, p)) ∙ sym (append_assoc (digits j (n / 10)) ((48 + n % 10) ∷ []) acc))
 
-module _ (r n : ℕ) (fits : n < 2 ^ 64) (f : io.IsDigitCount 10 1 n r) where
-  -- 10^20 is above 2^64
-  pub at_most_20 : r ≤ 20
-  at_most_20 = go (ltb 20 r) refl
-    where
-      go : (b : Bool) → ltb 20 r ≡ b → r ≤ 20
-      go true e =
-          let more : 20 < r = ltb-true 20 r e in
-          let high : 10 ^ 20 ≤ 10 ^ (r - 1) = pow-le-pow_right {n = 10} (omega arith) {i = 20} {j = r - 1} (omega arith) in
-          let low : 10 ^ (r - 1) ≤ n = f.2 (omega arith) in
-          absurd (omega arith)
-      go false e = ltb-false 20 r e
-
-  pub decimal_is : io.last_digits 10 r n ≡ decimal n
-  decimal_is =
-      let k = r - 1 in
-      let e : r ≡ suc k = omega (arith, f.0) in
-      rw e (same_digits k 19 n (omega (arith, at_most_20)) (rw e at f.1) (λ h. f.2 (omega arith)))
+pub decimal_is : (n : ℕ) → n < 2 ^ 64 → fmt.decimal n ≡ decimal n
+unfolding fmt.digits
+decimal_is n h = onto 19 64 n [] (omega arith) (omega arith) ∙ append-nil (digits 19 n)

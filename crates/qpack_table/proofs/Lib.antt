@@ -1,4 +1,3 @@
 pub mod Digits
-pub mod Putting
 pub mod Listing
 pub mod Usable

@@ -1,7 +1,7 @@
--- The program's report, as document 01 shows it, byte for byte.
-use Rattle.std.specs.Prelude.{List, [], ◌∷◌, ◌++◌, ℕ, zero, suc, ◌+◌, ◌/◌, ◌%◌, ltb, cond}
+-- The program's report, as the specification shows it, byte for byte.
+use Rattle.std.specs.Prelude.{Result, Ok, Err, List, [], ◌∷◌, ◌++◌, ℕ, zero, suc, ◌+◌, ◌/◌, ◌%◌, ltb, cond}
+use Rattle.answers.specs.declared.Refusal.{Refusal}
 use Rattle.answers.specs.Answer.{number_of}
-use Rattle.answers.specs.declared.Reply.{Reply}
 use Rattle.entries.specs.Entry.{Entry}
 use Rattle.field.specs.Field.{overhead}
 use Rattle.ring.specs.Ring.{live}
@@ -66,12 +66,12 @@ entry_lines before [] = []
 entry_lines before (e ∷ l) = entry_line (before + 1) e.name e.value ++ entry_lines (before + 1) l
 
 -- "a refusal shows its number on the last line"
-abbrev pub number_in : Reply → ℕ
-number_in Reply.Done = 0
-number_in (Reply.Refused r) = number_of r
+abbrev pub number_in : Result Unit Refusal → ℕ
+number_in (Ok tt) = 0
+number_in (Err r) = number_of r
 
-abbrev pub ending : ℕ → Reply → List ℕ
+abbrev pub ending : ℕ → Result Unit Refusal → List ℕ
 ending consumed reply = told consumed_word consumed ++ space ++ told answer_word (number_in reply) ++ newline
 
-unfoldable pub report_of : Ring → ℕ → Reply → List ℕ
+unfoldable pub report_of : Ring → ℕ → Result Unit Refusal → List ℕ
 report_of r consumed reply = heading ++ newline ++ counts r ++ entry_lines r.dropped (live r) ++ ending consumed reply

@@ -1,142 +1,123 @@
 // The program: an encoder stream on standard input, applied to a fresh table, and a report of the table.
 #![tactic(auto)]
 
-ghost use Rattle.std.specs.Prelude.{◌≡◌, true, ◌+◌, ◌≤◌, length};
-ghost use Rattle.std.proofs.lemmas.List.Edits.{sets};
+ghost use Rattle.std.specs.Prelude.{◌≡◌, true, ◌+◌, ◌≤◌, ◌++◌, length};
+ghost use Rattle.arrayvec.specs.ArrayString.{array_string_len};
 ghost use Rattle.ring.specs.Ring.{keeps, live};
 ghost use Rattle.qpack_table.specs.Text.{decimal, told, counts, entry_line, entry_lines, number_in, ending, report_of};
 
-use answers::{Refusal, Reply};
+use answers::Refusal;
 use arena::RING;
+use arrayvec::ArrayString;
 use dynamic::Table;
 use encoder_stream::{INCREMENT_ROOM, Received};
 use entries::SLOTS;
 use field::ESTIMATED_OVERHEAD_BYTES;
 use ring::Ring;
+use std::io::Read;
 
-// Where the stream comes from, and where the report goes.
-const STDIN: i32 = 0;
+// How long a stream may be.
+const INPUT_ROOM: usize = 65536;
 
-const STDOUT: i32 = 1;
-
-// How many digits a number has at most.
-const MOST_DIGITS: usize = 20;
-
-// A u16 as a usize.
-fn wide(x: u16) -> usize
-    ensures { (result ≡ x) × (result ≤ 65535) }
-{
-    x as usize
-}
-
-// Some bytes, put at a position; the position past them.
-fn put_text(out: &mut [u8], at: usize, text: &[u8]) -> usize
-    requires { at + length text.now ≤ length out.old }
-    ensures { (result ≡ at + length text.now) × (out.new ≡ sets out.old at text.now) }
-{
-    byte_writing::write(out, at, text, 0, text.len());
-    at + text.len()
-}
+// How long a report may be.
+const REPORT_ROOM: usize = 65536;
 
 // A number in decimal digits.
-fn put_number(out: &mut [u8], at: usize, n: usize) -> usize
-    requires { at + 20 ≤ length out.old }
-    ensures { (result ≡ at + length (decimal n)) × (result ≤ at + 20) × (out.new ≡ sets out.old at (decimal n)) }
+fn put_number(out: &mut ArrayString<REPORT_ROOM>, n: usize)
+    requires { array_string_len out.old + 20 ≤ 65536 }
+    ensures text { out.new.bytes ≡ out.old.bytes ++ decimal n }
+    ensures long { array_string_len out.new ≤ array_string_len out.old + 20 }
 {
-    let mut text = [0; MOST_DIGITS];
-    let k = io::decimal(n as u64, &mut text);
-    put_text(out, at, &text[..k])
+    let mut digits = itoa::Buffer::new();
+    out.push_str(digits.format(n as u64));
 }
 
 // A word and its number.
-fn put_told(out: &mut [u8], at: usize, word: &[u8], n: usize) -> usize
-    requires { at + (length word.now + 21) ≤ length out.old }
-    ensures { (result ≡ at + length (told word.now n)) × (result ≤ at + (length word.now + 21)) × (out.new ≡ sets out.old at (told word.now n)) }
+fn put_told(out: &mut ArrayString<REPORT_ROOM>, word: &str, n: usize)
+    requires { array_string_len out.old + (length word.now + 21) ≤ 65536 }
+    ensures text { out.new.bytes ≡ out.old.bytes ++ told word.now n }
+    ensures long { array_string_len out.new ≤ array_string_len out.old + (length word.now + 21) }
 {
-    let a = put_text(out, at, word);
-    let b = put_text(out, a, b" ");
-    put_number(out, b, n)
+    out.push_str(word);
+    out.push_str(" ");
+    put_number(out, n);
 }
 
 // The line of counts.
-fn put_counts(out: &mut [u8], at: usize, ring: Ring) -> usize
-    requires { at + 120 ≤ length out.old }
-    ensures { (result ≡ at + length (counts ring)) × (result ≤ at + 120) × (out.new ≡ sets out.old at (counts ring)) }
+fn put_counts(out: &mut ArrayString<REPORT_ROOM>, ring: &Ring)
+    requires { array_string_len out.old + 120 ≤ 65536 }
+    ensures text { out.new.bytes ≡ out.old.bytes ++ counts ring.now }
+    ensures long { array_string_len out.new ≤ array_string_len out.old + 120 }
 {
-    let a = put_told(out, at, b"capacity", ring.capacity);
-    let b = put_told(out, a, b" size", ring.size);
-    let c = put_told(out, b, b" inserted", ring.inserted);
-    let d = put_told(out, c, b" dropped", ring.dropped);
-    put_text(out, d, b"\n")
+    put_told(out, "capacity", ring.capacity);
+    put_told(out, " size", ring.size);
+    put_told(out, " inserted", ring.inserted);
+    put_told(out, " dropped", ring.dropped);
+    out.push_str("\n");
 }
 
 // The line of one entry.
-fn put_entry(out: &mut [u8], at: usize, absolute: usize, name: usize, value: usize) -> usize
-    requires { (at + 84 ≤ length out.old) × (name ≤ 65535) × (value ≤ 65535) }
-    ensures { (result ≡ at + length (entry_line absolute name value)) × (result ≤ at + 84) × (out.new ≡ sets out.old at (entry_line absolute name value)) }
+fn put_entry(out: &mut ArrayString<REPORT_ROOM>, absolute: usize, name: usize, value: usize)
+    requires { (array_string_len out.old + 84 ≤ 65536) × (name ≤ 65535) × (value ≤ 65535) }
+    ensures text { out.new.bytes ≡ out.old.bytes ++ entry_line absolute name value }
+    ensures long { array_string_len out.new ≤ array_string_len out.old + 84 }
 {
-    let a = put_number(out, at, absolute);
-    let b = put_told(out, a, b"", name + value + ESTIMATED_OVERHEAD_BYTES);
-    let c = put_told(out, b, b"", name);
-    let d = put_told(out, c, b"", value);
-    put_text(out, d, b"\n")
+    put_number(out, absolute);
+    put_told(out, "", name + value + ESTIMATED_OVERHEAD_BYTES);
+    put_told(out, "", name);
+    put_told(out, "", value);
+    out.push_str("\n");
 }
 
 // The lines of the entries, oldest first.
-fn put_entries(out: &mut [u8], at: usize, ring: Ring) -> usize
-    requires { (keeps ring ≡ true) × (at + 43008 ≤ length out.old) }
-    ensures { (result ≡ at + length (entry_lines ring.dropped (live ring))) × (result ≤ at + 43008) × (out.new ≡ sets out.old at (entry_lines ring.dropped (live ring))) }
+fn put_entries(out: &mut ArrayString<REPORT_ROOM>, ring: &Ring)
+    requires { (keeps ring.now ≡ true) × (array_string_len out.old + 43008 ≤ 65536) }
+    ensures text { out.new.bytes ≡ out.old.bytes ++ entry_lines ring.now.dropped (live ring.now) }
+    ensures long { array_string_len out.new ≤ array_string_len out.old + 43008 }
 {
-    let mut end = at;
-    let mut gone = ring.dropped;
-    while gone < ring.inserted {
+    for gone in ring.dropped..ring.inserted {
         let i = gone % SLOTS;
-        let name = wide(ring.names[i]);
-        let value = wide(ring.values[i]);
-        end = put_entry(out, end, gone + 1, name, value);
-        gone += 1;
+        put_entry(
+            out,
+            gone + 1,
+            usize::from(ring.names[i]),
+            usize::from(ring.values[i]),
+        );
     }
-    end
-}
-
-// The last line.
-fn put_ending(out: &mut [u8], at: usize, consumed: usize, reply: Reply) -> usize
-    requires { at + 60 ≤ length out.old }
-    ensures { (result ≡ at + length (ending consumed reply)) × (result ≤ at + 60) × (out.new ≡ sets out.old at (ending consumed reply)) }
-{
-    let a = put_told(out, at, b"consumed", consumed);
-    let b = put_told(out, a, b" answer", number_of(reply));
-    put_text(out, b, b"\n")
 }
 
 // An answer's number.
-fn number_of(reply: Reply) -> usize
+fn number_of(reply: Result<(), Refusal>) -> usize
     ensures { result ≡ number_in reply }
 {
     match reply {
-        Reply::Done => 0,
-        Reply::Refused(why) => answers::number(why) as usize,
+        Ok(()) => 0,
+        Err(why) => answers::number(why) as usize,
     }
 }
 
-// The whole report.
-fn put_report(out: &mut [u8], ring: Ring, consumed: usize, reply: Reply) -> usize
-    requires { (keeps ring ≡ true) × (length out.old ≡ 65536) }
-    ensures { (result ≡ length (report_of ring consumed reply)) × (result ≤ 65536) × (out.new ≡ sets out.old 0 (report_of ring consumed reply)) }
+// The last line.
+fn put_ending(out: &mut ArrayString<REPORT_ROOM>, consumed: usize, reply: Result<(), Refusal>)
+    requires { array_string_len out.old + 60 ≤ 65536 }
+    ensures text { out.new.bytes ≡ out.old.bytes ++ ending consumed reply }
+    ensures long { array_string_len out.new ≤ array_string_len out.old + 60 }
 {
-    let a = put_text(out, 0, b"qpack table\n");
-    let b = put_counts(out, a, ring);
-    let c = put_entries(out, b, ring);
-    put_ending(out, c, consumed, reply)
+    put_told(out, "consumed", consumed);
+    put_told(out, " answer", number_of(reply));
+    out.push_str("\n");
 }
 
-// Reports a table on standard output.
-fn say(ring: Ring, consumed: usize, reply: Reply)
-    requires { keeps ring ≡ true }
+// The whole report.
+fn report_of(ring: &Ring, consumed: usize, reply: Result<(), Refusal>) -> ArrayString<REPORT_ROOM>
+    requires { keeps ring.now ≡ true }
+    ensures { result.bytes ≡ report_of ring.now consumed reply }
 {
-    let mut out = io::large_buffer();
-    let n = put_report(&mut out, ring, consumed, reply);
-    io::write_all(STDOUT, &out[..n]);
+    let mut out = ArrayString::new();
+    out.push_str("qpack table\n");
+    put_counts(&mut out, ring);
+    put_entries(&mut out, ring);
+    put_ending(&mut out, consumed, reply);
+    out
 }
 
 // Applies a stream to a fresh table.
@@ -148,16 +129,33 @@ fn run(s: &[u8]) -> Received
     encoder_stream::on_encoder_recv(Table::fresh(), &mut arena, s, &mut increment)
 }
 
-fn main() {
-    let mut input = io::large_buffer();
-    let n = io::read_full(STDIN, &mut input);
-    let mut more = [0; 1];
-    let extra = io::read_full(STDIN, &mut more);
-    if 0 < extra {
-        say(Table::fresh().ring, 0, Reply::Refused(Refusal::BadCall));
-        return;
+// The front of the input, up to the buffer's end: how many bytes it is.
+fn read_front(rt: &HostRuntime, buf: &mut [u8]) -> usize
+    ensures { result ≤ length buf.new }
+{
+    let mut source = rt.reader();
+    let mut n = 0;
+    // each turn goes on behind what it was given
+    while n < buf.len() {
+        let Ok(more) = source.read(&mut buf[n..]) else {
+            break;
+        };
+        if more == 0 {
+            break;
+        }
+        n += more;
     }
-    let r = run(&input[..n]);
-    let reply = r.reply;
-    say(r.table.ring, r.consumed, reply);
+    n
+}
+
+fn main(rt: HostRuntime) {
+    let mut input = [0; INPUT_ROOM + 1];
+    let n = read_front(&rt, &mut input);
+    let report = if INPUT_ROOM < n {
+        report_of(&Table::fresh().ring, 0, Err(Refusal::BadCall))
+    } else {
+        let received = run(&input[..n]);
+        report_of(&received.table.ring, received.consumed, received.reply)
+    };
+    let _ = print!(rt; "{}", report.as_str());
 }

@@ -8,8 +8,7 @@ use Rattle.arena.specs.Ring.{ring}
 use Rattle.entries.specs.Drop.{fewest}
 use Rattle.entries.specs.declared.Room.{Room}
 use Rattle.entries.proofs.Drop.{found_is_fewest}
-use Rattle.ring.specs.Ring.{live, keeps, free_below, room_in, cut_by, cutting}
-use Rattle.ring.specs.declared.Cut.{Cut}
+use Rattle.ring.specs.Ring.{Cut, live, keeps, free_below, room_in, cut_by, cutting}
 use Rattle.ring.specs.declared.Ring.{Ring}
 use Rattle.ring.proofs.Growing.{Shrunk, shrunk}
 use Rattle.ring.proofs.Keeping.{Arrays, kept, length_live}

@@ -8,8 +8,7 @@ use lib.ListN.{length, take, drop, length-set, length-drop, length-append}
 use borrow.Author.Tests.{leb-true}
 use Rattle.arena.specs.Ring.{ring, long_enough, ring_write}
 use Rattle.arena.proofs.RingWrite.{length_ring_write}
-use Rattle.entries.specs.Entry.{Entry, slots, between, end_of, field_of}
-use Rattle.entries.specs.Entry.{size_of as sizeIn}
+use Rattle.entries.specs.Entry.{Entry, slots, between, end_of, field_of, size_of as sizeIn}
 use Rattle.entries.proofs.Between.{between_drop, between_push}
 use Rattle.entries.proofs.Chain.{bytes_in, size_is_bytes}
 use Rattle.entries.proofs.Rules.{Rules, rules_drop, rules_push}

@@ -9,11 +9,8 @@ use borrow.Author.Tests.{le-leb, lt-leb, lt-ltb, le-ltb}
 use Rattle.arena.specs.Ring.{ring}
 use Rattle.entries.specs.Entry.{Entry, cost_of}
 use Rattle.entries.specs.declared.Room.{Room}
-use Rattle.ring.specs.Plan.{entry_of, Refuses, Readies, Plans}
+use Rattle.ring.specs.Plan.{entry_of, Refuses, Readies}
 use Rattle.ring.specs.Ring.{largest_count, live, room_in, source_live, pushable, pushed, field_from, drawn, pushing}
-use Rattle.ring.specs.declared.Plan.{Plan}
-use Rattle.ring.specs.declared.Plan.TheVariants.{Refused, Ready}
-use Rattle.ring.specs.declared.Push.{Push}
 use Rattle.ring.specs.declared.Push.TheVariants.{TooLarge, NoRoom, Full, BadCall}
 use Rattle.ring.specs.declared.Ring.{Ring}
 use Rattle.ring.specs.declared.Source.{Source}
@@ -29,13 +26,6 @@ pub record Tested (r : Ring) (a : List ℕ) (s : Source) : Type 0 where
   pub live : source_live r s ≡ true
 
 module _ (r : Ring) (a : List ℕ) (low : ℕ) (s : Source) (n v : List ℕ) where
-  -- a plan by its case
-  pub is_refused : (x : Plan) (p : Push) → x ≡ Refused p → Plans r a low s n v x → Refuses r a low s n v p
-  is_refused x p e w = rw e at w
-
-  pub is_ready : (x : Plan) (e : Stored) (m : Room) → x ≡ Ready e m → Plans r a low s n v x → Readies r a low s n v e m
-  is_ready x e m q w = rw q at w
-
   not_pushable : pushable r a s ≡ false → pushing r a low s n v ≡ pushed r BadCall
   unfolding pushing
   not_pushable h = rw h

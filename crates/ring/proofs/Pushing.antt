@@ -10,9 +10,7 @@ use borrow.Author.Tests.{leb-true, leb-false, ltb-true, ltb-false, le-leb, lt-le
 use Rattle.arena.specs.Ring.{long_enough, ring_write}
 use Rattle.entries.specs.Drop.{fewest}
 use Rattle.field.specs.Field.{Field, size_of}
-use Rattle.ring.specs.Ring.{largest_count, live, keeps, free_below, room_in, field_from, source_live}
-use Rattle.ring.specs.Ring.{pushed_by, pushed, push_room, push_field, pushing}
-use Rattle.ring.specs.Ring.{placed_bytes, bytes_after, making, Pushes}
+use Rattle.ring.specs.Ring.{largest_count, live, keeps, free_below, room_in, field_from, source_live, pushed_by, pushed, push_room, push_field, pushing, placed_bytes, bytes_after, making, Pushes}
 use Rattle.ring.specs.declared.Push.{Push}
 use Rattle.ring.specs.declared.Push.TheVariants.{Made, TooLarge, NoRoom, Full, BadCall}
 use Rattle.ring.specs.declared.Pushed.{Pushed}

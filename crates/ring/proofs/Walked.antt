@@ -1,5 +1,5 @@
 -- Bounds of the walk on any numbers: it passes entries of the list only, and where room is made the size is within it. Assumes nothing.
-use mathlib.Core.Path.{◌≡◌, refl, ◌∙◌}
+use mathlib.Core.Path.{◌≡◌, refl}
 use mathlib.Core.Bool.{Bool, true, false, cond}
 use mathlib.Core.List.{List, [], ◌∷◌}
 use Prim.Native.Nat.{ℕ, suc, ◌+◌, ◌-◌, ◌%◌, ◌≤◌}
@@ -43,7 +43,3 @@ module _ (r : Ring) (low room : ℕ) (m : Room) where
   bounds w =
       rw (w, ← length_between r.starts r.names r.values r.dropped r.inserted)
       (bounded r.size r.tail (low - r.dropped - 1) (live r) room)
-
-  -- what `entries::fewest` answers to a ring's numbers
-  pub room_walked : (free : ℕ) → free ≡ low - r.dropped - 1 → m ≡ walked r.size r.tail free (live r) room → m ≡ room_in r low room
-  room_walked free f w = w ∙ rw f

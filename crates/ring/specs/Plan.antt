@@ -1,11 +1,9 @@
 -- What a push comes to before anything changes: an answer that refuses it, or what is to be stored, with what its sums need.
-use Rattle.std.specs.Prelude.{◌≡◌, List, ℕ, ◌+◌, ◌-◌, ◌<◌, ◌≤◌, length}
+use Rattle.std.specs.Prelude.{◌≡◌, Result, Ok, Err, List, ℕ, ◌+◌, ◌-◌, ◌<◌, ◌≤◌, length}
 use Rattle.arena.specs.Ring.{ring}
 use Rattle.entries.specs.Entry.{Entry, cost_of}
 use Rattle.entries.specs.declared.Room.{Room}
 use Rattle.ring.specs.Ring.{live, drawn, largest_count, pushed, pushed_by, pushing, bytes_after}
-use Rattle.ring.specs.declared.Plan.{Plan}
-use Rattle.ring.specs.declared.Plan.TheVariants.{Refused, Ready}
 use Rattle.ring.specs.declared.Push.{Push}
 use Rattle.ring.specs.declared.Push.TheVariants.{Made}
 use Rattle.ring.specs.declared.Ring.{Ring}
@@ -29,6 +27,6 @@ pub record Readies (r : Ring) (a : List ℕ) (low : ℕ) (s : Source) (n v : Lis
   pub gone : m.count ≤ r.inserted - r.dropped
   pub room : m.size + cost_of (entry_of e) ≤ r.capacity
 
-abbrev pub Plans : Ring → List ℕ → ℕ → Source → List ℕ → List ℕ → Plan → Type 0
-Plans r a low s n v (Refused p) = Refuses r a low s n v p
-Plans r a low s n v (Ready e m) = Readies r a low s n v e m
+abbrev pub Plans : Ring → List ℕ → ℕ → Source → List ℕ → List ℕ → Result (Stored × Room) Push → Type 0
+Plans r a low s n v (Err p) = Refuses r a low s n v p
+Plans r a low s n v (Ok (e, m)) = Readies r a low s n v e m

@@ -1,5 +1,5 @@
 -- A ring of entries by value: its rules, what a push and a smaller capacity do to it to the last field, and what that is on its list of fields.
-use Rattle.std.specs.Prelude.{◌≡◌, Bool, true, false, ◌&&◌, cond, List, ◌++◌, map, ℕ, ◌+◌, ◌-◌, ◌^◌, ◌%◌, leb, ltb, length, get_or, set}
+use Rattle.std.specs.Prelude.{◌≡◌, Some, None, Option as Maybe, Bool, true, false, ◌&&◌, cond, List, ◌++◌, map, ℕ, ◌+◌, ◌-◌, ◌^◌, ◌%◌, leb, ltb, length, get_or, set}
 use Rattle.std.proofs.Math.Option.{Option, none}
 use Rattle.arena.specs.Ring.{ring, long_enough, ring_write, ring_move}
 use Rattle.entries.specs.Drop.{walked, fewest}
@@ -7,7 +7,6 @@ use Rattle.entries.specs.Entry.{Entry, no_entry, bytes_of, slots, between, field
 use Rattle.entries.specs.Rules.{keeps_rules}
 use Rattle.entries.specs.declared.Room.{Room}
 use Rattle.field.specs.Field.{Field, overhead, size_of}
-use Rattle.ring.specs.declared.Cut.{Cut}
 use Rattle.ring.specs.declared.Push.{Push}
 use Rattle.ring.specs.declared.Push.TheVariants.{Made, TooLarge, NoRoom, Full, BadCall}
 use Rattle.ring.specs.declared.Pushed.{Pushed}
@@ -152,6 +151,15 @@ cut_by r m c =
       names = r.names;
       values = r.values;
     }
+
+-- a ring after its capacity was set, or as it was where entries that may not go were in the way
+pub record Cut : Type 0 where
+  pub made : Bool
+  pub ring : Ring
+
+abbrev pub was_cut : Ring → Maybe Ring → Cut
+was_cut r (Some next) = record { made = true; ring = next }
+was_cut r None = record { made = false; ring = r }
 
 unfoldable pub cutting : Ring → ℕ → ℕ → Cut
 cutting r low c =

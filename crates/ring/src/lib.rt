@@ -5,13 +5,13 @@ ghost use Rattle.std.specs.Prelude.{◌≡◌, true, cond, List, map, ℕ, ◌+�
 ghost use Rattle.std.proofs.Math.Option.{none};
 ghost use Rattle.arena.specs.Ring.{ring, long_enough};
 ghost use Rattle.entries.specs.Entry.{slots, slot_of, between, bytes_of, field_of};
-ghost use Rattle.entries.specs.Latest.{last_of, matches, latest};
+ghost use Rattle.entries.specs.Latest.{last_of, matches, bytes_in, is_given, latest};
 ghost use Rattle.field.specs.Field.{overhead};
-ghost use Rattle.ring.specs.Ring.{keeps, room_for, live_in, drawn, placed, Pushes, cutting};
+ghost use Rattle.ring.specs.Ring.{keeps, live, free_below, room_in, room_for, live_in, source_live, drawn, placed, Pushes, was_cut, cutting};
 ghost use Rattle.ring.specs.Plan.{entry_of, Plans};
 
 use arena::RING;
-use entries::{Latest, Room, SLOTS};
+use entries::{Room, SLOTS, Slots};
 use field::ESTIMATED_OVERHEAD_BYTES;
 
 // The most entries that are ever inserted.
@@ -19,7 +19,7 @@ pub const LARGEST_COUNT: usize = 4611686018427387903;
 
 // The entries of a table; their strings stand in the arena that a call is lent.
 #[repr(C)]
-#[derive(Clone, Copy)]
+#[derive(Clone, Copy, PartialEq, Eq)]
 pub struct Ring {
     // How many entries were ever inserted, and how many of these are gone.
     pub inserted: usize,
@@ -30,7 +30,7 @@ pub struct Ring {
     // Where the oldest entry's bytes start in the arena, and where the next one's go.
     pub tail: usize,
     pub head: usize,
-    // Where each entry's bytes start, and how many its name and its value have.
+    // Where each entry's bytes start, and how many its name and its value have: three arrays, as C knows the record's layout.
     pub starts: [u16; SLOTS],
     pub names: [u16; SLOTS],
     pub values: [u16; SLOTS],
@@ -58,18 +58,11 @@ pub enum Push {
     BadCall,
 }
 
-// A ring after a push, and what the push did.
+// A ring after a push, and what the push did: one of five outcomes, with the ring in each, so no Result says it more plainly.
 #[derive(Clone, Copy)]
 pub struct Pushed {
     pub ring: Ring,
     pub push: Push,
-}
-
-// A ring after its capacity was set, or as it was where entries that may not go were in the way.
-#[derive(Clone, Copy)]
-pub struct Cut {
-    pub made: bool,
-    pub ring: Ring,
 }
 
 // Where an entry's bytes start, and how many its name and its value have.
@@ -78,37 +71,6 @@ struct Stored {
     start: usize,
     name: usize,
     value: usize,
-}
-
-// What a push comes to: an answer that changes nothing, or the entry as it stands at its source and the room made for it.
-#[derive(Clone, Copy)]
-enum Plan {
-    Refused(Push),
-    Ready(Stored, Room),
-}
-
-// A u16 as a usize.
-fn wide(x: u16) -> usize
-    ensures { result ≡ x }
-{
-    x as usize
-}
-
-// What is left of a number, 0 where more is taken than there is.
-fn minus(x: usize, y: usize) -> usize
-    ensures { result ≡ x - y }
-{
-    if x < y {
-        return 0;
-    }
-    x - y
-}
-
-// How many of the oldest entries may go, if those below low may.
-fn free_below(dropped: usize, low: usize) -> usize
-    ensures { result ≡ low - dropped - 1 }
-{
-    minus(minus(low, dropped), 1)
 }
 
 // Whether an entry of name and value bytes is within a capacity.
@@ -136,105 +98,6 @@ fn is_live(source: Source, count: usize) -> bool
     }
 }
 
-// The entry that comes after the first gone ones.
-fn entry_at<'a>(
-    starts: &'a [u16; SLOTS],
-    names: &'a [u16; SLOTS],
-    values: &'a [u16; SLOTS],
-    gone: usize,
-) -> Stored
-    ensures { entry_of result ≡ slot_of starts.now names.now values.now (gone % slots) }
-{
-    let i = gone % SLOTS;
-    Stored {
-        start: wide(starts[i]),
-        name: wide(names[i]),
-        value: wide(values[i]),
-    }
-}
-
-// The entry that comes as it stands at its source: name and value are the lengths of the strings handed in.
-fn entry_from<'a>(
-    starts: &'a [u16; SLOTS],
-    names: &'a [u16; SLOTS],
-    values: &'a [u16; SLOTS],
-    dropped: usize,
-    inserted: usize,
-    source: Source,
-    name: usize,
-    value: usize,
-) -> Stored
-    requires { live_in (inserted - dropped) source ≡ true }
-    ensures { entry_of result ≡ drawn (between starts.now names.now values.now dropped inserted) source name value }
-{
-    match source {
-        Source::Given => Stored {
-            start: 0,
-            name,
-            value,
-        },
-        Source::NameOf(k) => {
-            let e = entry_at(starts, names, values, dropped + k);
-            Stored {
-                start: e.start,
-                name: e.name,
-                value,
-            }
-        }
-        Source::CopyOf(k) => entry_at(starts, names, values, dropped + k),
-    }
-}
-
-// What a push comes to.
-fn plan_push<'a>(
-    starts: &'a [u16; SLOTS],
-    names: &'a [u16; SLOTS],
-    values: &'a [u16; SLOTS],
-    inserted: usize,
-    dropped: usize,
-    size: usize,
-    capacity: usize,
-    tail: usize,
-    head: usize,
-    arena: usize,
-    low: usize,
-    source: Source,
-    name: usize,
-    value: usize,
-) -> Plan
-    ensures { (a n v : List ℕ) → length a ≡ arena → length n ≡ name → length v ≡ value
-        → Plans (record { inserted = inserted; dropped = dropped; size = size; capacity = capacity; tail = tail; head = head; starts = starts.now; names = names.now; values = values.now }) a low source n v result }
-{
-    if RING < capacity {
-        return Plan::Refused(Push::BadCall);
-    }
-    if RING <= head {
-        return Plan::Refused(Push::BadCall);
-    }
-    if arena < RING {
-        return Plan::Refused(Push::BadCall);
-    }
-    if !is_live(source, minus(inserted, dropped)) {
-        return Plan::Refused(Push::BadCall);
-    }
-    let e = entry_from(
-        starts, names, values, dropped, inserted, source, name, value,
-    );
-    if !fits(capacity, e.name, e.value) {
-        return Plan::Refused(Push::TooLarge);
-    }
-    let free = free_below(dropped, low);
-    let room = capacity - (e.name + e.value + ESTIMATED_OVERHEAD_BYTES);
-    let m = entries::fewest(names, values, dropped, inserted, size, tail, free, room);
-    if !m.made {
-        return Plan::Refused(Push::NoRoom);
-    }
-    if LARGEST_COUNT <= inserted {
-        return Plan::Refused(Push::Full);
-    }
-    Plan::Ready(e, m)
-}
-
 // The strings of an entry that stands at its source as e, put to the head of the arena.
 fn place(arena: &mut [u8], head: usize, source: Source, e: Stored, name: &[u8], value: &[u8])
     requires { (long_enough arena.old ≡ true) × (head < ring) × (bytes_of (entry_of e) ≤ ring) }
@@ -256,17 +119,27 @@ fn place(arena: &mut [u8], head: usize, source: Source, e: Stored, name: &[u8], 
 }
 
 impl Ring {
+    // The arrays, as the calls over entries take them.
+    fn slots(&self) -> Slots<'_>
+        ensures starts { result.starts.now ≡ self.now.starts }
+        ensures names { result.names.now ≡ self.now.names }
+        ensures values { result.values.now ≡ self.now.values }
+    {
+        Slots {
+            starts: &self.starts,
+            names: &self.names,
+            values: &self.values,
+        }
+    }
+
     // Whether the ring keeps its rules.
-    pub fn sound(self) -> bool
-        ensures { result ≡ keeps self }
+    pub fn sound(&self) -> bool
+        ensures { result ≡ keeps self.now }
     {
         if LARGEST_COUNT < self.inserted {
             return false;
         }
-        entries::check(
-            &self.starts,
-            &self.names,
-            &self.values,
+        self.slots().check(
             self.dropped,
             self.inserted,
             self.size,
@@ -276,9 +149,31 @@ impl Ring {
         )
     }
 
+    // How many of the oldest entries may go, if those below low may.
+    fn free_below(&self, low: usize) -> usize
+        ensures { result ≡ free_below self.now low }
+    {
+        low.saturating_sub(self.dropped).saturating_sub(1)
+    }
+
+    // The fewest oldest entries below low that leave the size at most room.
+    fn fewest(&self, low: usize, room: usize) -> Room
+        ensures { result ≡ room_in self.now low room }
+    {
+        let free = self.free_below(low);
+        self.slots().fewest(
+            self.dropped,
+            self.inserted,
+            self.size,
+            self.tail,
+            free,
+            room,
+        )
+    }
+
     // The room that the oldest entries make for one of name and value bytes: those below low may go.
-    pub fn room(self, low: usize, name: usize, value: usize) -> Room
-        ensures { result ≡ room_for self low name value }
+    pub fn room(&self, low: usize, name: usize, value: usize) -> Room
+        ensures { result ≡ room_for self.now low name value }
     {
         if !fits(self.capacity, name, value) {
             return Room {
@@ -288,18 +183,85 @@ impl Ring {
                 tail: self.tail,
             };
         }
-        let free = free_below(self.dropped, low);
-        let room = self.capacity - (name + value + ESTIMATED_OVERHEAD_BYTES);
-        entries::fewest(
-            &self.names,
-            &self.values,
-            self.dropped,
-            self.inserted,
-            self.size,
-            self.tail,
-            free,
-            room,
+        self.fewest(
+            low,
+            self.capacity - (name + value + ESTIMATED_OVERHEAD_BYTES),
         )
+    }
+
+    // The entry that comes after the first gone ones.
+    fn entry_at(&self, gone: usize) -> Stored
+        ensures { entry_of result ≡ slot_of self.now.starts self.now.names self.now.values (gone % slots) }
+    {
+        let i = gone % SLOTS;
+        Stored {
+            start: usize::from(self.starts[i]),
+            name: usize::from(self.names[i]),
+            value: usize::from(self.values[i]),
+        }
+    }
+
+    // The entry that comes as it stands at its source: name and value are the lengths of the strings handed in.
+    fn entry_from(&self, source: Source, name: usize, value: usize) -> Stored
+        requires { source_live self.now source ≡ true }
+        ensures { entry_of result ≡ drawn (live self.now) source name value }
+    {
+        match source {
+            Source::Given => Stored {
+                start: 0,
+                name,
+                value,
+            },
+            Source::NameOf(k) => {
+                let e = self.entry_at(self.dropped + k);
+                Stored {
+                    start: e.start,
+                    name: e.name,
+                    value,
+                }
+            }
+            Source::CopyOf(k) => self.entry_at(self.dropped + k),
+        }
+    }
+
+    // What a push comes to: why it changes nothing, or the entry as it stands at its source and the room made for it.
+    fn plan_push(
+        &self,
+        arena: &[u8],
+        low: usize,
+        source: Source,
+        name: &[u8],
+        value: &[u8],
+    ) -> Result<(Stored, Room), Push>
+        ensures { Plans self.now arena.now low source name.now value.now result }
+    {
+        if RING < self.capacity {
+            return Err(Push::BadCall);
+        }
+        if RING <= self.head {
+            return Err(Push::BadCall);
+        }
+        if arena.len() < RING {
+            return Err(Push::BadCall);
+        }
+        if !is_live(source, self.inserted.saturating_sub(self.dropped)) {
+            return Err(Push::BadCall);
+        }
+        let e = self.entry_from(source, name.len(), value.len());
+        if !fits(self.capacity, e.name, e.value) {
+            return Err(Push::TooLarge);
+        }
+        let m = self.fewest(
+            low,
+            self.capacity - (e.name + e.value + ESTIMATED_OVERHEAD_BYTES),
+        );
+        if !m.made {
+            return Err(Push::NoRoom);
+        }
+        if LARGEST_COUNT <= self.inserted {
+            return Err(Push::Full);
+        }
+        Ok((e, m))
     }
 
     // One more entry, after the fewest old ones below low went.
@@ -313,28 +275,9 @@ impl Ring {
     ) -> Pushed
         ensures { Pushes self arena.old arena.new low source name.now value.now result }
     {
-        let plan = plan_push(
-            &self.starts,
-            &self.names,
-            &self.values,
-            self.inserted,
-            self.dropped,
-            self.size,
-            self.capacity,
-            self.tail,
-            self.head,
-            arena.len(),
-            low,
-            source,
-            name.len(),
-            value.len(),
-        );
-        let mut push = Push::Made;
-        match plan {
-            Plan::Refused(why) => {
-                push = why;
-            }
-            Plan::Ready(e, m) => {
+        match self.plan_push(arena, low, source, name, value) {
+            Err(push) => Pushed { ring: self, push },
+            Ok((e, m)) => {
                 place(arena, self.head, source, e, name, value);
                 let i = self.inserted % SLOTS;
                 self.starts[i] = self.head as u16;
@@ -345,58 +288,41 @@ impl Ring {
                 self.size = m.size + (e.name + e.value + ESTIMATED_OVERHEAD_BYTES);
                 self.tail = m.tail;
                 self.head = (self.head + (e.name + e.value)) % RING;
+                Pushed {
+                    ring: self,
+                    push: Push::Made,
+                }
             }
         }
-        Pushed { ring: self, push }
     }
 
-    // Another capacity, after the fewest old entries below low went.
-    pub fn cut(mut self, low: usize, capacity: usize) -> Cut
-        ensures { result ≡ cutting self low capacity }
+    // Another capacity, after the fewest old entries below low went; none where entries that may not go are in the way.
+    pub fn cut(mut self, low: usize, capacity: usize) -> Option<Ring>
+        ensures { was_cut self result ≡ cutting self low capacity }
     {
-        let free = free_below(self.dropped, low);
-        let room = entries::fewest(
-            &self.names,
-            &self.values,
-            self.dropped,
-            self.inserted,
-            self.size,
-            self.tail,
-            free,
-            capacity,
-        );
+        let room = self.fewest(low, capacity);
         if !room.made {
-            return Cut {
-                made: false,
-                ring: self,
-            };
+            return None;
         }
         self.dropped += room.count;
         self.size = room.size;
         self.capacity = capacity;
         self.tail = room.tail;
-        Cut {
-            made: true,
-            ring: self,
-        }
+        Some(self)
     }
 
     // The latest entry of a name and, where the whole field is looked for, of a value, among those after the first gone ones.
-    pub fn newest(self, arena: &[u8], gone: usize, name: &[u8], value: &[u8], whole: bool) -> Latest
+    pub fn newest(
+        &self,
+        arena: &[u8],
+        gone: usize,
+        name: &[u8],
+        value: Option<&[u8]>,
+    ) -> Option<usize>
         ensures { latest result ≡ cond (long_enough arena.now)
-            (last_of (matches name.now value.now whole) (map (field_of arena.now) (between self.starts self.names self.values gone self.inserted)))
+            (last_of (matches name.now (bytes_in value.entry) (is_given value.entry)) (map (field_of arena.now) (between self.now.starts self.now.names self.now.values gone self.now.inserted)))
             none }
     {
-        entries::newest(
-            arena,
-            &self.starts,
-            &self.names,
-            &self.values,
-            gone,
-            self.inserted,
-            name,
-            value,
-            whole,
-        )
+        self.slots().newest(arena, gone, self.inserted, name, value)
     }
 }

@@ -1,4 +1,4 @@
--- Document 01: "a stream call takes one contiguous slice, applies whole instructions, reports bytes consumed". Said once, for both streams.
+-- The specification: "a stream call takes one contiguous slice, applies whole instructions, reports bytes consumed". For both streams.
 use Rattle.std.specs.Prelude.{cond, List, ℕ, zero, suc, leb, length}
 use Rattle.std.proofs.Math.Option.{Option, some, none}
 use Rattle.answers.specs.Answer.{Answer, done, refused}

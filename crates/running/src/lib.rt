@@ -1,3 +1,9 @@
+// A call on a stream: whole instructions, one after another. The rest is definitions and laws.
 #![tactic(auto)]
 
-// A call on a stream: whole instructions, one after another. Definitions and laws alone.
+// A whole instruction, and the position past it.
+#[derive(Clone, Copy)]
+pub struct Whole<I> {
+    pub instruction: I,
+    pub next: usize,
+}

@@ -1,202 +1,193 @@
-// An answer: its number, its words and its values, and how it is written.
-use answers::{Find, Insert, Insertion, Lookup, Refusal, Reply, Written};
+// An answer: the number of its refusal, or 0, and the words and numbers after it.
+use crate::words::Word;
+use answers::{Insertion, Lookup, Refusal};
+use std::fmt;
 
-// The words, by number; 0 is none.
-pub const STATIC: usize = 1;
+// How many words and numbers follow at the most.
+const MOST: usize = 16;
 
-pub const RELATIVE: usize = 2;
+#[derive(Clone, Copy)]
+pub enum Part {
+    Word(Word),
+    Number(u64),
+}
 
-pub const POST_BASE: usize = 3;
+impl From<Word> for Part {
+    fn from(word: Word) -> Part {
+        Part::Word(word)
+    }
+}
 
-pub const NOT_FOUND: usize = 4;
+impl From<u64> for Part {
+    fn from(number: u64) -> Part {
+        Part::Number(number)
+    }
+}
 
-const INSERTED: usize = 5;
+impl From<usize> for Part {
+    fn from(number: usize) -> Part {
+        Part::Number(number as u64)
+    }
+}
 
-const DUPLICATED: usize = 6;
+impl From<u8> for Part {
+    fn from(number: u8) -> Part {
+        Part::Number(u64::from(number))
+    }
+}
 
-const WITH_NAME: usize = 7;
+// Truth is 1, falsehood is 0.
+impl From<bool> for Part {
+    fn from(truth: bool) -> Part {
+        Part::Number(u64::from(truth))
+    }
+}
 
-const WITH_STATIC_NAME: usize = 8;
+impl fmt::Display for Part {
+    fn fmt<W: fmt::Write>(&self, f: &mut fmt::Formatter<W>) -> fmt::Result {
+        match self {
+            Part::Word(word) => write!(f, "{word}"),
+            Part::Number(number) => write!(f, "{number}"),
+        }
+    }
+}
 
-const NOT_INSERTED: usize = 9;
+// The values of some words and numbers.
+#[macro_export]
+macro_rules! values {
+    ($($part:expr),*) => {
+        $crate::answer::Values::from([$($crate::answer::Part::from($part)),*])
+    };
+}
 
-pub const INPUT: usize = 10;
+// Words and numbers, in a fixed room: so an answer needs no memory, which could run out.
+#[derive(Clone, Copy)]
+pub struct Values([Option<Part>; MOST]);
 
-pub const FIXED: usize = 11;
+impl Values {
+    pub const NONE: Values = Values([None; MOST]);
 
-pub const STORED: usize = 12;
+    // The values with a word before them.
+    fn after(self, word: Word) -> Values {
+        let mut parts = [None; MOST];
+        parts[0] = Some(Part::Word(word));
+        for (place, part) in parts.iter_mut().skip(1).zip(self.0) {
+            *place = part;
+        }
+        Values(parts)
+    }
+}
 
-pub const ACKNOWLEDGE: usize = 13;
+impl<const N: usize> From<[Part; N]> for Values {
+    fn from(given: [Part; N]) -> Values {
+        let mut parts = [None; MOST];
+        for (place, part) in parts.iter_mut().zip(given.iter()) {
+            *place = Some(*part);
+        }
+        Values(parts)
+    }
+}
 
-pub const CANCEL: usize = 14;
+impl From<()> for Values {
+    fn from(_none: ()) -> Values {
+        Values::NONE
+    }
+}
 
-pub const INCREMENT: usize = 15;
+impl From<usize> for Values {
+    fn from(number: usize) -> Values {
+        values![number]
+    }
+}
 
-pub const CUT: usize = 16;
+impl From<bool> for Values {
+    fn from(truth: bool) -> Values {
+        values![truth]
+    }
+}
 
-pub const DUPLICATE: usize = 17;
+impl From<Lookup> for Values {
+    fn from(found: Lookup) -> Values {
+        match found {
+            Lookup::Static(index) => values![Word::Static, index],
+            Lookup::Relative { index, absolute } => values![Word::Relative, index, absolute],
+            Lookup::PostBase { index, absolute } => values![Word::PostBase, index, absolute],
+            Lookup::NotFound => values![Word::NotFound],
+        }
+    }
+}
 
-pub const CAPACITY: usize = 18;
+impl From<Insertion> for Values {
+    fn from(insertion: Insertion) -> Values {
+        match insertion {
+            Insertion::Inserted { postbase, absolute } => {
+                values![Word::Inserted, postbase, absolute]
+            }
+            Insertion::Duplicated {
+                relative,
+                postbase,
+                absolute,
+            } => values![Word::Duplicated, relative, postbase, absolute],
+            Insertion::InsertedWithNameRef {
+                postbase,
+                relative,
+                absolute,
+            } => values![Word::WithName, postbase, relative, absolute],
+            Insertion::InsertedWithStaticNameRef {
+                postbase,
+                index,
+                absolute,
+            } => values![Word::WithStaticName, postbase, index, absolute],
+            Insertion::NotInserted(found) => Values::from(found).after(Word::NotInserted),
+        }
+    }
+}
 
-pub const LITERAL: usize = 19;
+// Each one has a space before it.
+impl fmt::Display for Values {
+    fn fmt<W: fmt::Write>(&self, f: &mut fmt::Formatter<W>) -> fmt::Result {
+        for part in self.0.iter().flatten() {
+            write!(f, " {part}")?;
+        }
+        Ok(())
+    }
+}
 
-pub const NAME_REF: usize = 20;
-
-pub const INDEXED: usize = 21;
-
-pub const NAMED: usize = 22;
-
-pub const FOUND: usize = 23;
-
-// The first of the five words of a push.
-pub const MADE: usize = 24;
-
-pub const AT: usize = 29;
-
-pub const NOTHING: usize = 30;
-
-// An answer's number; a word before all, one before the first value and one before the third; and the values.
 #[derive(Clone, Copy)]
 pub struct Answer {
-    pub number: u8,
-    pub head: usize,
-    pub first: usize,
-    pub third: usize,
-    pub count: usize,
-    pub values: [usize; 6],
+    pub reply: Result<(), Refusal>,
+    pub values: Values,
 }
 
-// An answer with some of six values.
-fn made(number: u8, count: usize, values: [usize; 6]) -> Answer {
-    Answer {
-        number,
-        head: 0,
-        first: 0,
-        third: 0,
-        count,
-        values,
+impl Answer {
+    pub const DONE: Answer = Answer {
+        reply: Ok(()),
+        values: Values::NONE,
+    };
+}
+
+// A refusal has no values.
+impl<V: Into<Values>> From<Result<V, Refusal>> for Answer {
+    fn from(answer: Result<V, Refusal>) -> Answer {
+        match answer {
+            Ok(values) => Answer {
+                reply: Ok(()),
+                values: values.into(),
+            },
+            Err(why) => Answer {
+                reply: Err(why),
+                values: Values::NONE,
+            },
+        }
     }
 }
 
-// A call that was made.
-pub fn done() -> Answer {
-    made(0, 0, [0; 6])
-}
-
-// A call that was refused.
-pub fn refused(why: Refusal) -> Answer {
-    made(answers::number(why), 0, [0; 6])
-}
-
-pub fn one(a: usize) -> Answer {
-    made(0, 1, [a, 0, 0, 0, 0, 0])
-}
-
-pub fn two(a: usize, b: usize) -> Answer {
-    made(0, 2, [a, b, 0, 0, 0, 0])
-}
-
-pub fn three(a: usize, b: usize, c: usize) -> Answer {
-    made(0, 3, [a, b, c, 0, 0, 0])
-}
-
-pub fn four(a: usize, b: usize, c: usize, d: usize) -> Answer {
-    made(0, 4, [a, b, c, d, 0, 0])
-}
-
-pub fn five(a: usize, b: usize, c: usize, d: usize, e: usize) -> Answer {
-    made(0, 5, [a, b, c, d, e, 0])
-}
-
-pub fn six(a: usize, b: usize, c: usize, d: usize, e: usize, f: usize) -> Answer {
-    made(0, 6, [a, b, c, d, e, f])
-}
-
-// Truth as 1, falsehood as 0.
-pub fn bit(b: bool) -> usize {
-    if b {
-        return 1;
-    }
-    0
-}
-
-// The answer with a word before its first value.
-pub fn worded(mut a: Answer, word: usize) -> Answer {
-    a.first = word;
-    a
-}
-
-// The answer with a word before everything else.
-pub fn headed(mut a: Answer, word: usize) -> Answer {
-    a.head = word;
-    a
-}
-
-// The number of a reply.
-pub fn number_of(r: Reply) -> u8 {
-    match r {
-        Reply::Done => 0,
-        Reply::Refused(why) => answers::number(why),
-    }
-}
-
-pub fn reply(r: Reply) -> Answer {
-    made(number_of(r), 0, [0; 6])
-}
-
-// A reply with some values, refused or not.
-pub fn replied(r: Reply, count: usize, values: [usize; 6]) -> Answer {
-    made(number_of(r), count, values)
-}
-
-pub fn written(w: Written) -> Answer {
-    match w {
-        Written::Next(next) => one(next),
-        Written::Refused(why) => refused(why),
-    }
-}
-
-pub fn lookup(l: Lookup) -> Answer {
-    match l {
-        Lookup::Static(i) => worded(one(i), STATIC),
-        Lookup::Relative { index, absolute } => worded(two(index, absolute), RELATIVE),
-        Lookup::PostBase { index, absolute } => worded(two(index, absolute), POST_BASE),
-        Lookup::NotFound => worded(done(), NOT_FOUND),
-    }
-}
-
-pub fn find(f: Find) -> Answer {
-    match f {
-        Find::Found(l) => lookup(l),
-        Find::Refused(why) => refused(why),
-    }
-}
-
-fn insertion(i: Insertion) -> Answer {
-    match i {
-        Insertion::Inserted { postbase, absolute } => worded(two(postbase, absolute), INSERTED),
-        Insertion::Duplicated {
-            relative,
-            postbase,
-            absolute,
-        } => worded(three(relative, postbase, absolute), DUPLICATED),
-        Insertion::InsertedWithNameRef {
-            postbase,
-            relative,
-            absolute,
-        } => worded(three(postbase, relative, absolute), WITH_NAME),
-        Insertion::InsertedWithStaticNameRef {
-            postbase,
-            index,
-            absolute,
-        } => worded(three(postbase, index, absolute), WITH_STATIC_NAME),
-        Insertion::NotInserted(l) => headed(lookup(l), NOT_INSERTED),
-    }
-}
-
-pub fn insert(i: Insert) -> Answer {
-    match i {
-        Insert::Insertion(x) => insertion(x),
-        Insert::Refused(why) => refused(why),
+impl fmt::Display for Answer {
+    fn fmt<W: fmt::Write>(&self, f: &mut fmt::Formatter<W>) -> fmt::Result {
+        let number = match self.reply {
+            Ok(()) => 0,
+            Err(why) => answers::number(why),
+        };
+        write!(f, "{number}{}", self.values)
     }
 }

@@ -1,10 +1,12 @@
-// A script's commands on standard input, and their answers on standard output.
+// A script's commands, read from a source of bytes, and their answers, which print themselves.
 #![tactic(auto)]
 
 pub mod answer;
 pub mod bounds;
+pub mod calls;
 pub mod faults;
 pub mod input;
 pub mod opcodes;
-pub mod say;
+pub mod session;
 pub mod text;
+pub mod words;

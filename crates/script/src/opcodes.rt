@@ -2,315 +2,450 @@
 ghost use Rattle.std.specs.Prelude.{◌≡◌, ◌≤◌};
 ghost use Rattle.script.specs.Shapes.{out_at, others_at, numbers_end};
 
-// How many opcodes there are.
-pub const OPCODES: usize = 105;
+use crate::bounds::Bound;
+use crate::calls::{
+    ArenaCall, LeafCall, LeafQuestion, LeafReader, LeafWriter, LineCall, LookCall, Opcode,
+    PartChange, PartQuestion, ReadCall, SectionCall, StatelessCall, TableCall,
+};
+use crate::faults::Fault;
 
-// For each opcode five digits: whether it has a table (1) and an arena (2), whether an output buffer, how many more numbers, how many strings, and which bounds the first number has.
-const SHAPES: [u16; OPCODES] = [
-    // fresh
-    10000,
-    // set_capacity
-    10100,
-    // set_max_blocked
-    10100,
-    // put
-    20020,
-    // begin
-    10100,
-    // find
-    20020,
-    // insert
-    20020,
-    // commit
-    10100,
-    // abandon
-    10000,
-    // acknowledge
-    10100,
-    // cancel
-    10100,
-    // increment
-    10100,
-    // checked
-    10000,
-    // on_encoder_recv
-    21010,
-    // on_decoder_recv
-    10010,
-    // show
-    10000,
-    // set
-    10301,
-    // write_arena
-    10112,
-    // read_arena
-    10202,
-    // copy
-    10103,
-    // compare
-    10103,
-    // line_on
-    10210,
-    // read_report
-    110,
-    // read_instruction
-    110,
-    // read_prefix
-    310,
-    // line_static
-    110,
-    // int_read
-    210,
-    // int_size
-    200,
-    // int_ok
-    200,
-    // int_write
-    1400,
-    // text_read
-    210,
-    // text_size
-    300,
-    // text_write
-    1310,
-    // static_get
-    100,
-    // static_find
-    20,
-    // static_find_name
-    10,
-    // static_copy
-    1300,
-    // vas_relative
-    300,
-    // vas_relative_base
-    400,
-    // vas_post_base
-    400,
-    // vas_index
-    300,
-    // vas_largest_ref
-    200,
-    // stream_read_integer
-    214,
-    // stream_read_name_ref
-    110,
-    // stream_read_literal
-    110,
-    // stream_write_integer
-    1304,
-    // stream_write_name_ref
-    1310,
-    // stream_write_literal
-    1120,
-    // block_read_line
-    110,
-    // block_write_indexed
-    1305,
-    // block_write_named
-    1315,
-    // block_write_literal
-    1120,
-    // encoder_kind
-    100,
-    // decoder_kind
-    100,
-    // line_kind
-    100,
-    // form_of
-    104,
-    // head_of
-    204,
-    // capacity_test
-    100,
-    // section_on
-    21116,
-    // section_stateless
-    1216,
-    // shape_text_after
-    210,
-    // shape_texts
-    210,
-    // shape_write_int_text
-    1410,
-    // shape_write_texts
-    1320,
-    // push_reply
-    207,
-    // arena_write
-    20110,
-    // arena_is_at
-    20110,
-    // arena_move
-    20308,
-    // arena_copy
-    21300,
-    // entries_check
-    10600,
-    // entries_fewest
-    10600,
-    // entries_newest
-    20320,
-    // ring_sound
-    10000,
-    // ring_room
-    10300,
-    // ring_push
-    20325,
-    // ring_cut
-    10200,
-    // ring_newest
-    20220,
-    // track_note
-    10100,
-    // track_section_floor
-    10300,
-    // track_queue_floor
-    10300,
-    // track_push
-    10000,
-    // track_release
-    10100,
-    // track_waiting_ok
-    10000,
-    // track_block
-    10100,
-    // track_let_go
-    10100,
-    // answer_number
-    109,
-    // answer_ends_early
-    109,
-    // next_on
-    21810,
-    // next_stateless
-    1910,
-    // static_entry
-    100,
-    // entry_on
-    10305,
-    // entry_static
-    205,
-    // decode_header
-    21116,
-    // decode_stateless
-    1216,
-    // section_begin
-    20710,
-    // section_line
-    21810,
-    // open_floor
-    10300,
-    // lookup_of
-    200,
-    // with_uses
-    10100,
-    // waiting_with
-    10100,
-    // kind_int
-    214,
-    // past_limit
-    204,
-    // text_ok
-    200,
-    // section_new
-    0,
-    // byte_write
-    1310,
+// What a call is lent beside its strings.
+#[derive(Clone, Copy)]
+enum Lent {
+    Nothing,
+    Arena,
+    Buffer,
+    Both,
+}
+
+// A command's call, what is lent, how many more numbers, how many strings, and the bound of the first number.
+macro_rules! row {
+    ($opcode:expr, $lent:ident, $numbers:literal, $strings:literal, $bound:ident) => {
+        ($opcode, Lent::$lent, $numbers, $strings, Bound::$bound)
+    };
+}
+
+// The opcodes in their order.
+static ROWS: [(Opcode, Lent, usize, usize, Bound); 105] = [
+    row!(Opcode::Table(TableCall::Fresh), Nothing, 0, 0, Any),
+    row!(Opcode::Table(TableCall::SetCapacity), Nothing, 1, 0, Any),
+    row!(Opcode::Table(TableCall::SetMaxBlocked), Nothing, 1, 0, Any),
+    row!(Opcode::Table(TableCall::Put), Arena, 0, 2, Any),
+    row!(Opcode::Table(TableCall::Begin), Nothing, 1, 0, Any),
+    row!(Opcode::Table(TableCall::Find), Arena, 0, 2, Any),
+    row!(Opcode::Table(TableCall::Insert), Arena, 0, 2, Any),
+    row!(Opcode::Table(TableCall::Commit), Nothing, 1, 0, Any),
+    row!(Opcode::Table(TableCall::Abandon), Nothing, 0, 0, Any),
+    row!(Opcode::Table(TableCall::Acknowledge), Nothing, 1, 0, Any),
+    row!(Opcode::Table(TableCall::Cancel), Nothing, 1, 0, Any),
+    row!(Opcode::Table(TableCall::Increment), Nothing, 1, 0, Any),
+    row!(Opcode::Table(TableCall::Checked), Nothing, 0, 0, Any),
+    row!(Opcode::Table(TableCall::OnEncoderRecv), Both, 0, 1, Any),
+    row!(Opcode::Table(TableCall::OnDecoderRecv), Nothing, 0, 1, Any),
+    row!(Opcode::Look(LookCall::Show), Nothing, 0, 0, Any),
+    row!(Opcode::SetField, Nothing, 3, 0, Field),
+    row!(Opcode::Look(LookCall::WriteArena), Nothing, 1, 1, Place),
+    row!(Opcode::Look(LookCall::ReadArena), Nothing, 2, 0, Place),
+    row!(Opcode::CopyTable, Nothing, 1, 0, Table),
+    row!(Opcode::CompareTables, Nothing, 1, 0, Table),
+    row!(Opcode::Line(LineCall::Line), Nothing, 2, 1, Any),
+    row!(Opcode::Read(ReadCall::Report), Nothing, 1, 1, Any),
+    row!(Opcode::Read(ReadCall::Instruction), Nothing, 1, 1, Any),
+    row!(Opcode::Read(ReadCall::Prefix), Nothing, 3, 1, Any),
+    row!(Opcode::Read(ReadCall::LineStatic), Nothing, 1, 1, Any),
+    row!(
+        Opcode::Leaf(LeafCall::Read(LeafReader::Int)),
+        Nothing,
+        2,
+        1,
+        Any
+    ),
+    row!(
+        Opcode::Leaf(LeafCall::Ask(LeafQuestion::IntSize)),
+        Nothing,
+        2,
+        0,
+        Any
+    ),
+    row!(
+        Opcode::Leaf(LeafCall::Ask(LeafQuestion::IntOk)),
+        Nothing,
+        2,
+        0,
+        Any
+    ),
+    row!(
+        Opcode::Leaf(LeafCall::Write(LeafWriter::Int)),
+        Buffer,
+        4,
+        0,
+        Any
+    ),
+    row!(
+        Opcode::Leaf(LeafCall::Read(LeafReader::Text)),
+        Nothing,
+        2,
+        1,
+        Any
+    ),
+    row!(
+        Opcode::Leaf(LeafCall::Ask(LeafQuestion::TextSize)),
+        Nothing,
+        3,
+        0,
+        Any
+    ),
+    row!(
+        Opcode::Leaf(LeafCall::Write(LeafWriter::Text)),
+        Buffer,
+        3,
+        1,
+        Any
+    ),
+    row!(
+        Opcode::Leaf(LeafCall::Ask(LeafQuestion::StaticGet)),
+        Nothing,
+        1,
+        0,
+        Any
+    ),
+    row!(
+        Opcode::Leaf(LeafCall::Ask(LeafQuestion::StaticFind)),
+        Nothing,
+        0,
+        2,
+        Any
+    ),
+    row!(
+        Opcode::Leaf(LeafCall::Ask(LeafQuestion::StaticFindName)),
+        Nothing,
+        0,
+        1,
+        Any
+    ),
+    row!(
+        Opcode::Leaf(LeafCall::Write(LeafWriter::StaticCopy)),
+        Buffer,
+        3,
+        0,
+        Any
+    ),
+    row!(
+        Opcode::Leaf(LeafCall::Ask(LeafQuestion::Relative)),
+        Nothing,
+        3,
+        0,
+        Any
+    ),
+    row!(
+        Opcode::Leaf(LeafCall::Ask(LeafQuestion::RelativeBase)),
+        Nothing,
+        4,
+        0,
+        Any
+    ),
+    row!(
+        Opcode::Leaf(LeafCall::Ask(LeafQuestion::PostBase)),
+        Nothing,
+        4,
+        0,
+        Any
+    ),
+    row!(
+        Opcode::Leaf(LeafCall::Ask(LeafQuestion::Index)),
+        Nothing,
+        3,
+        0,
+        Any
+    ),
+    row!(
+        Opcode::Leaf(LeafCall::Ask(LeafQuestion::LargestRef)),
+        Nothing,
+        2,
+        0,
+        Any
+    ),
+    row!(
+        Opcode::Leaf(LeafCall::Read(LeafReader::StreamInteger)),
+        Nothing,
+        2,
+        1,
+        Kind
+    ),
+    row!(
+        Opcode::Leaf(LeafCall::Read(LeafReader::StreamNameRef)),
+        Nothing,
+        1,
+        1,
+        Any
+    ),
+    row!(
+        Opcode::Leaf(LeafCall::Read(LeafReader::StreamLiteral)),
+        Nothing,
+        1,
+        1,
+        Any
+    ),
+    row!(
+        Opcode::Leaf(LeafCall::Write(LeafWriter::StreamInteger)),
+        Buffer,
+        3,
+        0,
+        Kind
+    ),
+    row!(
+        Opcode::Leaf(LeafCall::Write(LeafWriter::StreamNameRef)),
+        Buffer,
+        3,
+        1,
+        Any
+    ),
+    row!(
+        Opcode::Leaf(LeafCall::Write(LeafWriter::StreamLiteral)),
+        Buffer,
+        1,
+        2,
+        Any
+    ),
+    row!(
+        Opcode::Leaf(LeafCall::Read(LeafReader::Line)),
+        Nothing,
+        1,
+        1,
+        Any
+    ),
+    row!(
+        Opcode::Leaf(LeafCall::Write(LeafWriter::LineIndexed)),
+        Buffer,
+        3,
+        0,
+        Reference
+    ),
+    row!(
+        Opcode::Leaf(LeafCall::Write(LeafWriter::LineNamed)),
+        Buffer,
+        3,
+        1,
+        Reference
+    ),
+    row!(
+        Opcode::Leaf(LeafCall::Write(LeafWriter::LineLiteral)),
+        Buffer,
+        1,
+        2,
+        Any
+    ),
+    row!(
+        Opcode::Leaf(LeafCall::Ask(LeafQuestion::EncoderKind)),
+        Nothing,
+        1,
+        0,
+        Any
+    ),
+    row!(
+        Opcode::Leaf(LeafCall::Ask(LeafQuestion::DecoderKind)),
+        Nothing,
+        1,
+        0,
+        Any
+    ),
+    row!(
+        Opcode::Leaf(LeafCall::Ask(LeafQuestion::LineKind)),
+        Nothing,
+        1,
+        0,
+        Any
+    ),
+    row!(
+        Opcode::Leaf(LeafCall::Ask(LeafQuestion::FormOf)),
+        Nothing,
+        1,
+        0,
+        Kind
+    ),
+    row!(
+        Opcode::Leaf(LeafCall::Ask(LeafQuestion::HeadOf)),
+        Nothing,
+        2,
+        0,
+        Kind
+    ),
+    row!(Opcode::Capacity, Nothing, 1, 0, Any),
+    row!(Opcode::Section(SectionCall::Whole), Both, 1, 1, Records),
+    row!(
+        Opcode::Stateless(StatelessCall::Whole),
+        Buffer,
+        2,
+        1,
+        Records
+    ),
+    row!(
+        Opcode::Leaf(LeafCall::Read(LeafReader::TextAfter)),
+        Nothing,
+        2,
+        1,
+        Any
+    ),
+    row!(
+        Opcode::Leaf(LeafCall::Read(LeafReader::Texts)),
+        Nothing,
+        2,
+        1,
+        Any
+    ),
+    row!(
+        Opcode::Leaf(LeafCall::Write(LeafWriter::IntText)),
+        Buffer,
+        4,
+        1,
+        Any
+    ),
+    row!(
+        Opcode::Leaf(LeafCall::Write(LeafWriter::Texts)),
+        Buffer,
+        3,
+        2,
+        Any
+    ),
+    row!(Opcode::PushReply, Nothing, 2, 0, Push),
+    row!(Opcode::Arena(ArenaCall::Write), Arena, 1, 1, Any),
+    row!(Opcode::Arena(ArenaCall::IsAt), Arena, 1, 1, Any),
+    row!(Opcode::Arena(ArenaCall::MoveBytes), Arena, 3, 0, Bytes),
+    row!(Opcode::Arena(ArenaCall::CopyOut), Both, 3, 0, Any),
+    row!(Opcode::Ask(PartQuestion::EntriesCheck), Nothing, 6, 0, Any),
+    row!(Opcode::Ask(PartQuestion::EntriesFewest), Nothing, 6, 0, Any),
+    row!(Opcode::Ask(PartQuestion::EntriesNewest), Arena, 3, 2, Any),
+    row!(Opcode::Ask(PartQuestion::RingSound), Nothing, 0, 0, Any),
+    row!(Opcode::Ask(PartQuestion::RingRoom), Nothing, 3, 0, Any),
+    row!(Opcode::Change(PartChange::RingPush), Arena, 3, 2, Reference),
+    row!(Opcode::Change(PartChange::RingCut), Nothing, 2, 0, Any),
+    row!(Opcode::Ask(PartQuestion::RingNewest), Arena, 2, 2, Any),
+    row!(Opcode::Change(PartChange::Note), Nothing, 1, 0, Any),
+    row!(Opcode::Ask(PartQuestion::SectionFloor), Nothing, 3, 0, Any),
+    row!(Opcode::Ask(PartQuestion::QueueFloor), Nothing, 3, 0, Any),
+    row!(Opcode::Change(PartChange::QueuePush), Nothing, 0, 0, Any),
+    row!(Opcode::Change(PartChange::QueueRelease), Nothing, 1, 0, Any),
+    row!(Opcode::Ask(PartQuestion::WaitingOk), Nothing, 0, 0, Any),
+    row!(Opcode::Change(PartChange::Block), Nothing, 1, 0, Any),
+    row!(Opcode::Change(PartChange::LetGo), Nothing, 1, 0, Any),
+    row!(
+        Opcode::Leaf(LeafCall::Ask(LeafQuestion::RefusalNumber)),
+        Nothing,
+        1,
+        0,
+        Refusal
+    ),
+    row!(
+        Opcode::Leaf(LeafCall::Ask(LeafQuestion::EndsEarly)),
+        Nothing,
+        1,
+        0,
+        Refusal
+    ),
+    row!(Opcode::Section(SectionCall::Next), Both, 8, 1, Any),
+    row!(Opcode::Stateless(StatelessCall::Next), Buffer, 9, 1, Any),
+    row!(Opcode::Read(ReadCall::StaticEntry), Nothing, 1, 0, Any),
+    row!(Opcode::Line(LineCall::Entry), Nothing, 3, 0, Reference),
+    row!(
+        Opcode::Read(ReadCall::EntryStatic),
+        Nothing,
+        2,
+        0,
+        Reference
+    ),
+    row!(Opcode::Section(SectionCall::Listed), Both, 1, 1, Records),
+    row!(
+        Opcode::Stateless(StatelessCall::Listed),
+        Buffer,
+        2,
+        1,
+        Records
+    ),
+    row!(Opcode::Section(SectionCall::Begin), Arena, 7, 1, Any),
+    row!(Opcode::Section(SectionCall::Line), Both, 8, 1, Any),
+    row!(Opcode::Ask(PartQuestion::OpenFloor), Nothing, 3, 0, Any),
+    row!(Opcode::LookupOf, Nothing, 2, 0, Any),
+    row!(Opcode::Change(PartChange::WithUses), Nothing, 1, 0, Any),
+    row!(Opcode::Change(PartChange::WaitingWith), Nothing, 1, 0, Any),
+    row!(
+        Opcode::Leaf(LeafCall::Read(LeafReader::KindInt)),
+        Nothing,
+        2,
+        1,
+        Kind
+    ),
+    row!(
+        Opcode::Leaf(LeafCall::Ask(LeafQuestion::PastLimit)),
+        Nothing,
+        2,
+        0,
+        Kind
+    ),
+    row!(
+        Opcode::Leaf(LeafCall::Ask(LeafQuestion::TextOk)),
+        Nothing,
+        2,
+        0,
+        Any
+    ),
+    row!(Opcode::Stateless(StatelessCall::Begin), Nothing, 0, 0, Any),
+    row!(
+        Opcode::Leaf(LeafCall::Write(LeafWriter::Bytes)),
+        Buffer,
+        3,
+        1,
+        Any
+    ),
 ];
 
-// What a command has, if its opcode is known.
+// What a command has.
 #[derive(Clone, Copy)]
 pub struct Shape {
-    pub known: bool,
-    pub table: bool,
+    pub opcode: Opcode,
     pub arena: bool,
     pub out: bool,
     pub numbers: usize,
     pub strings: usize,
-    pub bound: usize,
+    pub bound: Bound,
 }
 
-fn wide(x: u16) -> usize
-    ensures { result ≡ x }
-{
-    x as usize
-}
+impl TryFrom<u8> for Shape {
+    type Error = Fault;
 
-fn index(x: u8) -> usize {
-    x as usize
-}
-
-// The shape that five digits say.
-fn row_shape(known: bool, row: usize) -> Shape {
-    Shape {
-        known,
-        table: row / 10000 != 0,
-        arena: row / 10000 == 2,
-        out: row / 1000 % 10 == 1,
-        numbers: row / 100 % 10,
-        strings: row / 10 % 10,
-        bound: row % 10,
+    fn try_from(number: u8) -> Result<Shape, Fault> {
+        let row = ROWS.get(usize::from(number)).ok_or(Fault::UnknownOpcode)?;
+        let (opcode, lent, numbers, strings, bound) = *row;
+        Ok(Shape {
+            opcode,
+            arena: matches!(lent, Lent::Arena | Lent::Both),
+            out: matches!(lent, Lent::Buffer | Lent::Both),
+            numbers,
+            strings,
+            bound,
+        })
     }
 }
 
-// The shape of an opcode's command.
-pub fn shape_of(op: u8) -> Shape {
-    let at = index(op);
-    if OPCODES <= at {
-        return row_shape(false, 0);
+impl Shape {
+    // Where the output buffer's numbers begin among the command's: behind the arena's.
+    pub fn out_at(self) -> usize
+        ensures { (result ≡ out_at self) × (result ≤ 8) }
+    {
+        if self.arena { 8 } else { 0 }
     }
-    row_shape(true, wide(SHAPES[at]))
-}
 
-// Where the output buffer's numbers begin among the command's: behind the arena's.
-pub fn out_at(s: Shape) -> usize
-    ensures { (result ≡ out_at s) × (result ≤ 8) }
-{
-    if s.arena {
-        return 8;
+    // Where the other numbers begin.
+    pub fn others_at(self) -> usize
+        ensures { (result ≡ others_at self) × (result ≤ 24) }
+    {
+        let at = self.out_at();
+        if self.out { at + 16 } else { at }
     }
-    0
-}
 
-// Where the other numbers begin.
-pub fn others_at(s: Shape) -> usize
-    ensures { (result ≡ others_at s) × (result ≤ 24) }
-{
-    let at = out_at(s);
-    if s.out {
-        return at + 16;
+    // Where the numbers end. A row's count of numbers is one digit.
+    pub fn numbers_end(self) -> usize
+        ensures { (result ≡ numbers_end self) × (result ≤ 96) }
+    {
+        self.others_at() + 8 * (self.numbers % 10)
     }
-    at
-}
-
-// Where the numbers end.
-pub fn numbers_end(s: Shape) -> usize
-    ensures { (result ≡ numbers_end s) × (result ≤ 96) }
-{
-    others_at(s) + 8 * (s.numbers % 10)
-}
-
-// The largest first number under a bound: a field, a place in the arena, a table, a kind, a reference's kind or a source, a count of records, what a push did, a count of bytes, a refusal.
-pub fn most(bound: usize) -> u64 {
-    match bound {
-        1 => 27,
-        2 => 16640,
-        3 => 3,
-        4 => 11,
-        5 => 2,
-        6 => 1024,
-        7 => 4,
-        8 => 65536,
-        9 => 26,
-        _ => 18446744073709551615,
-    }
-}
-
-// The smallest first number under a bound: a refusal is not 0.
-pub fn least(bound: usize) -> u64 {
-    if bound == 9 {
-        return 1;
-    }
-    0
 }

@@ -1,85 +1,76 @@
-// Kinds and references by number.
+// Kinds, references and refusals by number.
+use answers::Refusal;
 use block::Reference;
 use forms::{DecoderInstruction, EncoderInstruction, HeaderBlockField, Kind};
-use script::answer;
-use script::answer::Answer;
 
-// The kind with a number.
-pub fn kind_of(n: u64) -> Kind {
-    match n {
-        0 => Kind::Encoder(EncoderInstruction::Duplicate),
-        1 => Kind::Encoder(EncoderInstruction::DynamicTableSizeUpdate),
-        2 => Kind::Encoder(EncoderInstruction::InsertWithoutNameRef),
-        3 => Kind::Encoder(EncoderInstruction::InsertWithNameRef),
-        4 => Kind::Decoder(DecoderInstruction::InsertCountIncrement),
-        5 => Kind::Decoder(DecoderInstruction::StreamCancel),
-        6 => Kind::Decoder(DecoderInstruction::HeaderAck),
-        7 => Kind::Line(HeaderBlockField::LiteralWithPostBaseNameRef),
-        8 => Kind::Line(HeaderBlockField::IndexedWithPostBase),
-        9 => Kind::Line(HeaderBlockField::Literal),
-        10 => Kind::Line(HeaderBlockField::LiteralWithNameRef),
-        _ => Kind::Line(HeaderBlockField::Indexed),
-    }
+static KINDS: [Kind; 12] = [
+    Kind::Encoder(EncoderInstruction::Duplicate),
+    Kind::Encoder(EncoderInstruction::DynamicTableSizeUpdate),
+    Kind::Encoder(EncoderInstruction::InsertWithoutNameRef),
+    Kind::Encoder(EncoderInstruction::InsertWithNameRef),
+    Kind::Decoder(DecoderInstruction::InsertCountIncrement),
+    Kind::Decoder(DecoderInstruction::StreamCancel),
+    Kind::Decoder(DecoderInstruction::HeaderAck),
+    Kind::Line(HeaderBlockField::LiteralWithPostBaseNameRef),
+    Kind::Line(HeaderBlockField::IndexedWithPostBase),
+    Kind::Line(HeaderBlockField::Literal),
+    Kind::Line(HeaderBlockField::LiteralWithNameRef),
+    Kind::Line(HeaderBlockField::Indexed),
+];
+
+static REFUSALS: [Refusal; 26] = [
+    Refusal::UnexpectedEnd,
+    Refusal::Overflow,
+    Refusal::HuffmanString,
+    Refusal::InvalidStaticIndex,
+    Refusal::BadRelativeIndex,
+    Refusal::BadPostbaseIndex,
+    Refusal::BadIndex,
+    Refusal::MaxTableSizeReached,
+    Refusal::MaximumTableSizeTooLarge,
+    Refusal::AboveLentRoom,
+    Refusal::MaxBlockedStreamsTooLarge,
+    Refusal::UnknownStreamId,
+    Refusal::MissingRefs,
+    Refusal::BadBaseIndex,
+    Refusal::BadInsertCount,
+    Refusal::BufSize,
+    Refusal::ShrinkBlocked,
+    Refusal::SectionOpen,
+    Refusal::NoSection,
+    Refusal::TrackingFull,
+    Refusal::BadLargest,
+    Refusal::BadCall,
+    Refusal::CountTooLarge,
+    Refusal::OutputFull,
+    Refusal::HeaderTooLong,
+    Refusal::InvalidPrefix,
+];
+
+// The kind with a number, 0 to 11.
+pub fn kind_of(number: u64) -> Kind {
+    KINDS[(number % 12) as usize]
 }
 
-fn encoder_number(k: EncoderInstruction) -> usize {
-    match k {
-        EncoderInstruction::Duplicate => 0,
-        EncoderInstruction::DynamicTableSizeUpdate => 1,
-        EncoderInstruction::InsertWithoutNameRef => 2,
-        EncoderInstruction::InsertWithNameRef => 3,
-    }
+// A kind's number, by its place on its stream: the decoder's come after the encoder's four, the lines' after those.
+pub fn encoder_number(kind: EncoderInstruction) -> usize {
+    kind as usize
 }
 
-fn decoder_number(k: DecoderInstruction) -> usize {
-    match k {
-        DecoderInstruction::InsertCountIncrement => 4,
-        DecoderInstruction::StreamCancel => 5,
-        DecoderInstruction::HeaderAck => 6,
-    }
+pub fn decoder_number(kind: DecoderInstruction) -> usize {
+    4 + kind as usize
 }
 
-fn line_number(k: HeaderBlockField) -> usize {
-    match k {
-        HeaderBlockField::LiteralWithPostBaseNameRef => 7,
-        HeaderBlockField::IndexedWithPostBase => 8,
-        HeaderBlockField::Literal => 9,
-        HeaderBlockField::LiteralWithNameRef => 10,
-        HeaderBlockField::Indexed => 11,
-    }
+pub fn line_number(kind: HeaderBlockField) -> usize {
+    7 + kind as usize
 }
 
-// The kind of a first byte on one of the three streams of kinds.
-pub fn first(op: u8, n: u64) -> Answer {
-    let b = (n % 256) as u8;
-    match op {
-        52 => answer::one(encoder_number(forms::encoder_kind(b))),
-        53 => answer::one(decoder_number(forms::decoder_kind(b))),
-        _ => answer::one(line_number(forms::line_kind(b))),
-    }
+// The refusal with a number, 1 to 26.
+pub fn refusal_of(number: u64) -> Refusal {
+    REFUSALS[(number.saturating_sub(1) % 26) as usize]
 }
 
-fn wide(x: u8) -> usize {
-    x as usize
-}
-
-pub fn form(n: u64) -> Answer {
-    let f = forms::form_of(kind_of(n));
-    answer::three(wide(f.pattern), wide(f.mask), wide(f.width))
-}
-
-pub fn head(n: u64, lowest: u64) -> Answer {
-    let h = forms::head_of(kind_of(n), lowest % 2 == 1);
-    answer::two(h.width as usize, wide(h.flags))
-}
-
-// Whether an instruction's integer is past its limit.
-pub fn past_limit(n: u64, value: u64) -> Answer {
-    let past = stream_parts::past_limit(kind_of(n), value);
-    answer::one(answer::bit(past))
-}
-
-// The reference of a kind: static, relative, post-base.
+// The reference of a kind, 0 to 2, with an index. A match on the script's number: the enum is the library's, and holds the index.
 pub fn reference_of(kind: u64, index: u64) -> Reference {
     match kind {
         0 => Reference::Static(index),

@@ -1,128 +1,122 @@
-// The readers of single instructions and field lines.
-use crate::kinds;
-use block::{LineRead, Reference};
-use script::answer;
-use script::answer::Answer;
+// The readers of integers, strings, single instructions and field lines.
+use crate::kinds::kind_of;
+use crate::width;
+use answers::Refusal;
+use block::{FieldLine, Reference};
+use prefix_int::Integer;
+use prefix_string::Text;
+use script::answer::Values;
+use script::calls::LeafReader;
 use script::input::Command;
-use stream::{IntegerRead, LiteralRead, NameRefRead};
+use script::values;
+use script::words::Word;
+use shapes::{IntText, TwoTexts};
+use stream::{Literal, NameRef, OneInteger};
 
-// The bytes end inside.
-pub fn cut() -> Answer {
-    answer::worded(answer::done(), answer::CUT)
+// What was read, or that the bytes end inside.
+pub fn cut_or(whole: Option<Values>) -> Values {
+    whole.unwrap_or(values![Word::Cut])
 }
 
-// Where two strings stand, and the position past them.
-pub fn literal_at(
-    name: usize,
-    name_len: usize,
-    value: usize,
-    value_len: usize,
-    next: usize,
-) -> Answer {
-    answer::worded(
-        answer::five(name, name_len, value, value_len, next),
-        answer::LITERAL,
-    )
-}
-
-fn integer(s: &[u8], at: usize, kind: u64) -> Answer {
-    let r = stream::read_integer(s, at, kinds::kind_of(kind));
-    match r {
-        IntegerRead::Integer { value, next } => answer::two(value as usize, next),
-        IntegerRead::Cut => cut(),
-        IntegerRead::Refused(why) => answer::refused(why),
+// A reference's word and its index.
+pub fn reference_of(reference: Reference) -> (Word, u64) {
+    match reference {
+        Reference::Static(index) => (Word::Static, index),
+        Reference::Relative(index) => (Word::Relative, index),
+        Reference::PostBase(index) => (Word::PostBase, index),
     }
 }
 
-fn name_ref(s: &[u8], at: usize) -> Answer {
-    let r = stream::read_name_ref(s, at);
-    match r {
-        NameRefRead::NameRef {
-            is_static,
-            index,
-            value,
-            value_len,
-            next,
-        } => answer::five(
-            answer::bit(is_static),
-            index as usize,
-            value,
-            value_len,
-            next,
-        ),
-        NameRefRead::Cut => cut(),
-        NameRefRead::Refused(why) => answer::refused(why),
-    }
+fn integer(Integer { flags, value, next }: Integer) -> Values {
+    values![flags, value, next]
 }
 
-fn literal(s: &[u8], at: usize) -> Answer {
-    let r = stream::read_literal(s, at);
-    match r {
-        LiteralRead::Literal {
-            name,
-            name_len,
-            value,
-            value_len,
-            next,
-        } => answer::five(name, name_len, value, value_len, next),
-        LiteralRead::Cut => cut(),
-        LiteralRead::Refused(why) => answer::refused(why),
-    }
+fn text(read: Text) -> Values {
+    values![read.flags, read.start, read.len, read.next]
 }
 
-// The answer with a reference's word, before its index.
-fn referred(a: Answer, r: Reference) -> Answer {
-    match r {
-        Reference::Static(_) => answer::worded(a, answer::STATIC),
-        Reference::Relative(_) => answer::worded(a, answer::RELATIVE),
-        Reference::PostBase(_) => answer::worded(a, answer::POST_BASE),
-    }
+fn int_text(read: IntText) -> Values {
+    values![read.flags, read.index, read.start, read.len, read.next]
 }
 
-// A reference's index.
-fn index_of(r: Reference) -> usize {
-    match r {
-        Reference::Static(i) => i as usize,
-        Reference::Relative(i) => i as usize,
-        Reference::PostBase(i) => i as usize,
-    }
+fn texts(read: TwoTexts) -> Values {
+    values![
+        read.flags,
+        read.name,
+        read.name_len,
+        read.value,
+        read.value_len,
+        read.next
+    ]
 }
 
-fn line(s: &[u8], at: usize) -> Answer {
-    let r = block::read_line(s, at);
-    match r {
-        LineRead::Indexed { field, next } => {
-            let a = referred(answer::two(index_of(field), next), field);
-            answer::headed(a, answer::INDEXED)
+fn one_integer(OneInteger { value, next }: OneInteger) -> Values {
+    values![value, next]
+}
+
+fn name_ref(read: NameRef) -> Values {
+    values![
+        read.is_static,
+        read.index,
+        read.value,
+        read.value_len,
+        read.next
+    ]
+}
+
+fn literal(read: Literal) -> Values {
+    values![
+        read.name,
+        read.name_len,
+        read.value,
+        read.value_len,
+        read.next
+    ]
+}
+
+fn field_line(line: FieldLine) -> Values {
+    match line {
+        FieldLine::Indexed { field, next } => {
+            let (word, index) = reference_of(field);
+            values![Word::Indexed, word, index, next]
         }
-        LineRead::Named {
+        FieldLine::Named {
             name,
             value,
             value_len,
             next,
         } => {
-            let a = answer::four(index_of(name), value, value_len, next);
-            answer::headed(referred(a, name), answer::NAMED)
+            let (word, index) = reference_of(name);
+            values![Word::Named, word, index, value, value_len, next]
         }
-        LineRead::Literal {
+        FieldLine::Literal {
             name,
             name_len,
             value,
             value_len,
             next,
-        } => literal_at(name, name_len, value, value_len, next),
-        LineRead::Refused(why) => answer::refused(why),
+        } => values![Word::Literal, name, name_len, value, value_len, next],
     }
 }
 
-// A reader's call.
-pub fn read(c: Command, s: &[u8]) -> Answer {
-    let op = c.op;
-    let at = c.a as usize;
-    match op {
-        42 => integer(s, c.b as usize, c.a),
-        43 => name_ref(s, at),
-        44 => literal(s, at),
-        _ => line(s, at),
-    }
+pub fn read(reader: LeafReader, c: &Command) -> Result<Values, Refusal> {
+    let s = c.name;
+    let [first, second, ..] = c.numbers;
+    let at = first as usize;
+    // These have their kind before the position.
+    let behind = second as usize;
+    let bits = width(second);
+    Ok(match reader {
+        LeafReader::Int => integer(prefix_int::read(s, at, bits)?),
+        LeafReader::KindInt => integer(stream_parts::kind_int(s, behind, kind_of(first))?),
+        LeafReader::Text => text(prefix_string::read(s, at, bits)?),
+        LeafReader::TextAfter => { int_text(shapes::text_after(s, prefix_int::read(s, at, bits))?) }
+        LeafReader::Texts => texts(shapes::texts(s, at, bits)?),
+        LeafReader::StreamInteger => {
+            cut_or(stream::read_integer(s, behind, kind_of(first))?.map(one_integer))
+        }
+        LeafReader::StreamNameRef => cut_or(stream::read_name_ref(s, at)?.map(name_ref)),
+        LeafReader::StreamLiteral => cut_or(stream::read_literal(s, at)?.map(literal)),
+        LeafReader::Line => field_line(block::read_line(s, at)?),
+    })
 }

@@ -1,66 +1,37 @@
 // The writers, each into a buffer that is shown whole.
-use crate::kinds;
-use crate::leaf::{flags, width};
-use answers::Written;
+use crate::kinds::{kind_of, reference_of};
+use crate::{low_byte, width};
+use answers::Refusal;
+use script::calls::LeafWriter;
 use script::input::Command;
-use script::{answer, say, text};
 
-// The writers of integers, strings, a stretch of bytes and the static table's bytes.
-fn leaf(buf: &mut [u8], c: Command, s: &[u8]) -> Written {
-    let op = c.op;
-    let at = c.a as usize;
-    match op {
-        29 => prefix_int::write(buf, at, width(c.b), flags(c.c), c.d),
-        32 => prefix_string::write(buf, at, width(c.b), flags(c.c), s),
-        104 => byte_writing::write(buf, at, s, c.b as usize, c.c as usize),
-        _ => static_table::copy(buf, at, c.b as usize, c.c as usize),
+pub fn write(writer: LeafWriter, c: &Command, buffer: &mut [u8]) -> Result<usize, Refusal> {
+    let (name, value) = (c.name, c.value);
+    let [first, second, third, fourth, ..] = c.numbers;
+    let at = first as usize;
+    // These have their kind or reference before the position.
+    let behind = second as usize;
+    let (bits, flags) = (width(second), low_byte(third));
+    match writer {
+        LeafWriter::Int => prefix_int::write(buffer, at, bits, flags, fourth),
+        LeafWriter::Text => prefix_string::write(buffer, at, bits, flags, name),
+        LeafWriter::Bytes => byte_writing::write(buffer, at, name, behind, third as usize),
+        LeafWriter::StaticCopy => static_table::copy(buffer, at, behind, third as usize),
+        LeafWriter::StreamInteger => {
+            stream::write_integer(buffer, behind, kind_of(first), third)
+        }
+        LeafWriter::StreamNameRef => {
+            stream::write_name_ref(buffer, at, second % 2 == 1, third, name)
+        }
+        LeafWriter::StreamLiteral => stream::write_literal(buffer, at, name, value),
+        LeafWriter::LineIndexed => {
+            block::write_indexed(buffer, behind, reference_of(first, third))
+        }
+        LeafWriter::LineNamed => {
+            block::write_named(buffer, behind, reference_of(first, third), name)
+        }
+        LeafWriter::LineLiteral => block::write_literal(buffer, at, name, value),
+        LeafWriter::IntText => shapes::write_int_text(buffer, at, bits, flags, fourth, name),
+        LeafWriter::Texts => shapes::write_texts(buffer, at, bits, flags, name, value),
     }
-}
-
-// The writers of the streams.
-fn instruction(buf: &mut [u8], c: Command, name: &[u8], value: &[u8]) -> Written {
-    let op = c.op;
-    match op {
-        45 => stream::write_integer(buf, c.b as usize, kinds::kind_of(c.a), c.c),
-        46 => stream::write_name_ref(buf, c.a as usize, c.b % 2 == 1, c.c, name),
-        _ => stream::write_literal(buf, c.a as usize, name, value),
-    }
-}
-
-// The writers of field lines.
-fn line(buf: &mut [u8], c: Command, name: &[u8], value: &[u8]) -> Written {
-    let op = c.op;
-    match op {
-        49 => block::write_indexed(buf, c.b as usize, kinds::reference_of(c.a, c.c)),
-        50 => block::write_named(buf, c.b as usize, kinds::reference_of(c.a, c.c), name),
-        _ => block::write_literal(buf, c.a as usize, name, value),
-    }
-}
-
-// The writers of shapes.
-fn shape(buf: &mut [u8], c: Command, name: &[u8], value: &[u8]) -> Written {
-    let op = c.op;
-    let at = c.a as usize;
-    match op {
-        62 => shapes::write_int_text(buf, at, width(c.b), flags(c.c), c.d, name),
-        _ => shapes::write_texts(buf, at, width(c.b), flags(c.c), name, value),
-    }
-}
-
-fn any(buf: &mut [u8], c: Command, name: &[u8], value: &[u8]) -> Written {
-    let op = c.op;
-    match op {
-        0..=36 => leaf(buf, c, name),
-        37..=47 => instruction(buf, c, name, value),
-        48..=59 => line(buf, c, name, value),
-        60..=103 => shape(buf, c, name, value),
-        104..=255 => leaf(buf, c, name),
-    }
-}
-
-// Makes a writer's call.
-pub fn write(c: Command, name: &[u8], value: &[u8], out: &mut [u8]) {
-    text::fill(out, c.fill);
-    let w = any(out, c, name, value);
-    say::say_buffer(answer::written(w), out, c.fill);
 }

@@ -1,100 +1,54 @@
 // Field lines and entries, on a table's ring or with none.
-use field_lines::{EntryRead, FieldRead, Text};
+use answers::Refusal;
+use field_lines::{FieldAt, Text};
+use line_entries::Entry;
 use ring::Ring;
-use script::answer;
-use script::answer::Answer;
-use script_leaves::kinds;
-use vas::VirtualAddressSpace;
+use script::answer::Values;
+use script::calls::LineCall;
+use script::input::Command;
+use script::values;
+use script::words::Word;
+use script_leaves::kinds::reference_of;
 
 // Where a string stands: the word for it, its start and its length.
-#[derive(Clone, Copy)]
-struct Stands {
-    word: usize,
-    start: usize,
-    len: usize,
-}
-
-fn stands_at(t: Text) -> Stands {
-    match t {
-        Text::Input { start, len } => Stands {
-            word: answer::INPUT,
-            start,
-            len,
-        },
-        Text::Fixed { start, len } => Stands {
-            word: answer::FIXED,
-            start,
-            len,
-        },
-        Text::Stored { start, len } => Stands {
-            word: answer::STORED,
-            start,
-            len,
-        },
+fn place(text: Text) -> (Word, usize, usize) {
+    match text {
+        Text::Input { start, len } => (Word::Input, start, len),
+        Text::Fixed { start, len } => (Word::Fixed, start, len),
+        Text::Stored { start, len } => (Word::Stored, start, len),
     }
 }
 
-// Where a name and a value stand, and a number that counts where there are five.
-fn both(name: Text, value: Text, next: usize, count: usize) -> Answer {
-    let n = stands_at(name);
-    let v = stands_at(value);
-    let mut a = answer::five(n.start, n.len, v.start, v.len, next);
-    a.first = n.word;
-    a.third = v.word;
-    a.count = count;
-    a
+pub fn field(read: FieldAt) -> Values {
+    let (name, name_start, name_len) = place(read.name);
+    let (value, value_start, value_len) = place(read.value);
+    values![
+        name,
+        name_start,
+        name_len,
+        value,
+        value_start,
+        value_len,
+        read.next
+    ]
 }
 
-fn field(r: FieldRead) -> Answer {
-    match r {
-        FieldRead::Field { name, value, next } => both(name, value, next, 5),
-        FieldRead::Refused(why) => answer::refused(why),
-    }
+pub fn entry(read: Entry) -> Values {
+    let (name, name_start, name_len) = place(read.name);
+    let (value, value_start, value_len) = place(read.value);
+    values![name, name_start, name_len, value, value_start, value_len]
 }
 
-fn entry(r: EntryRead) -> Answer {
-    match r {
-        EntryRead::Entry { name, value } => both(name, value, 0, 4),
-        EntryRead::Refused(why) => answer::refused(why),
-    }
-}
-
-fn live_of(inserted: usize, dropped: usize) -> VirtualAddressSpace {
-    VirtualAddressSpace { inserted, dropped }
-}
-
-pub fn line_on(ring: Ring, base: usize, s: &[u8], at: usize) -> Answer {
-    field(field_lines::read_on(
-        &ring.starts,
-        &ring.names,
-        &ring.values,
-        live_of(ring.inserted, ring.dropped),
-        base,
-        s,
-        at,
-    ))
-}
-
-pub fn line_static(s: &[u8], at: usize) -> Answer {
-    field(field_lines::read_static(s, at))
-}
-
-pub fn static_entry(index: u64) -> Answer {
-    entry(field_lines::static_entry(index))
-}
-
-pub fn entry_on(ring: Ring, base: usize, reference: u64, index: u64) -> Answer {
-    let r = kinds::reference_of(reference, index);
-    entry(field_lines::entry_on(
-        &ring.starts,
-        &ring.names,
-        &ring.values,
-        live_of(ring.inserted, ring.dropped),
-        base,
-        r,
-    ))
-}
-
-pub fn entry_static(reference: u64, index: u64) -> Answer {
-    entry(field_lines::entry_static(kinds::reference_of(reference, index)))
+pub fn read_on(line: LineCall, c: &Command, ring: &Ring) -> Result<Values, Refusal> {
+    let [first, second, third, ..] = c.numbers;
+    Ok(match line {
+        LineCall::Line => {
+            let (base, at) = (first as usize, second as usize);
+            field(field_lines::read_on(ring, base, c.name, at)?)
+        }
+        LineCall::Entry => {
+            let reference = reference_of(first, third);
+            entry(field_lines::entry_on(ring, second as usize, reference)?)
+        }
+    })
 }

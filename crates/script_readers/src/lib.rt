@@ -3,100 +3,68 @@
 
 mod fields;
 
-use decoder_stream::ReportRead;
-use header_prefix::PrefixRead;
-use instructions::{InstructionRead, Parsed};
-use ring::Ring;
-use script::answer;
-use script::answer::Answer;
+use answers::Refusal;
+use decoder_stream::Report;
+pub use fields::read_on;
+use header_prefix::Prefix;
+use instructions::Parsed;
+use running::Whole;
+use script::answer::Values;
+use script::calls::ReadCall;
 use script::input::Command;
-use script_leaves::readers::{cut, literal_at};
+use script::values;
+use script::words::Word;
+use script_leaves::cut_or;
+use script_leaves::kinds::reference_of;
 
-// A word and two numbers.
-fn pair(word: usize, a: usize, b: usize) -> Answer {
-    answer::worded(answer::two(a, b), word)
-}
-
-fn report(s: &[u8], at: usize) -> Answer {
-    let r = decoder_stream::read_report(s, at);
-    match r {
-        ReportRead::Release {
-            cancel,
-            stream,
-            next,
-        } => {
-            if cancel {
-                return pair(answer::CANCEL, stream as usize, next);
-            }
-            pair(answer::ACKNOWLEDGE, stream as usize, next)
-        }
-        ReportRead::Increment { inserts, next } => pair(answer::INCREMENT, inserts, next),
-        ReportRead::Cut => cut(),
-        ReportRead::Refused(why) => answer::refused(why),
+fn report(read: Whole<Report>) -> Values {
+    let next = read.next;
+    match read.instruction {
+        Report::Acknowledgement(stream) => values![Word::Acknowledge, stream, next],
+        Report::Cancellation(stream) => values![Word::Cancel, stream, next],
+        Report::Increment(inserts) => values![Word::Increment, inserts, next],
     }
 }
 
-fn parsed(p: Parsed, next: usize) -> Answer {
-    match p {
-        Parsed::Duplicate(index) => pair(answer::DUPLICATE, index, next),
-        Parsed::Capacity(n) => pair(answer::CAPACITY, n, next),
+fn instruction(read: Whole<Parsed>) -> Values {
+    let next = read.next;
+    match read.instruction {
+        Parsed::Duplicate(index) => values![Word::Duplicate, index, next],
+        Parsed::Capacity(capacity) => values![Word::Capacity, capacity, next],
         Parsed::Literal {
             name,
             name_len,
             value,
             value_len,
-        } => literal_at(name, name_len, value, value_len, next),
+        } => values![Word::Literal, name, name_len, value, value_len, next],
         Parsed::NameRef {
             is_static,
             index,
             value,
             value_len,
-        } => {
-            let a = answer::five(answer::bit(is_static), index, value, value_len, next);
-            answer::worded(a, answer::NAME_REF)
+        } => values![Word::NameRef, is_static, index, value, value_len, next],
+    }
+}
+
+fn prefix(read: Prefix) -> Values {
+    values![read.required, read.base, read.next]
+}
+
+// A reader's call that needs no table.
+pub fn read(reader: ReadCall, c: &Command) -> Result<Values, Refusal> {
+    let s = c.name;
+    let [first, second, third, ..] = c.numbers;
+    let at = first as usize;
+    Ok(match reader {
+        ReadCall::Report => cut_or(decoder_stream::read_report(s, at)?.map(report)),
+        ReadCall::Instruction => { cut_or(instructions::read_instruction(s, at)?.map(instruction)) }
+        ReadCall::Prefix => {
+            prefix(header_prefix::read_prefix(s, at, second as usize, third as usize)?)
         }
-    }
-}
-
-fn instruction(s: &[u8], at: usize) -> Answer {
-    let r = instructions::read_instruction(s, at);
-    match r {
-        InstructionRead::Whole { parsed: p, next } => parsed(p, next),
-        InstructionRead::Cut => cut(),
-        InstructionRead::Refused(why) => answer::refused(why),
-    }
-}
-
-fn prefix(s: &[u8], at: usize, total: usize, capacity: usize) -> Answer {
-    let r = header_prefix::read_prefix(s, at, total, capacity);
-    match r {
-        PrefixRead::Prefix {
-            required,
-            base,
-            next,
-        } => answer::three(required, base, next),
-        PrefixRead::Refused(why) => answer::refused(why),
-    }
-}
-
-// A reader's call.
-pub fn read(c: Command, s: &[u8]) -> Answer {
-    let op = c.op;
-    let at = c.a as usize;
-    match op {
-        22 => report(s, at),
-        23 => instruction(s, at),
-        24 => prefix(s, at, c.b as usize, c.c as usize),
-        25 => fields::line_static(s, at),
-        89 => fields::static_entry(c.a),
-        _ => fields::entry_static(c.a, c.b),
-    }
-}
-
-// A field line or an entry on a table's ring.
-pub fn read_on(ring: Ring, c: Command, s: &[u8]) -> Answer {
-    if c.op == 21 {
-        return fields::line_on(ring, c.a as usize, s, c.b as usize);
-    }
-    fields::entry_on(ring, c.b as usize, c.a, c.c)
+        ReadCall::LineStatic => fields::field(field_lines::read_static(s, at)?),
+        ReadCall::StaticEntry => fields::entry(field_lines::static_entry(first)?),
+        ReadCall::EntryStatic => {
+            fields::entry(field_lines::entry_static(reference_of(first, second))?)
+        }
+    })
 }

@@ -1,113 +1,92 @@
 // Sections, read on a table or with none, into records and a buffer.
-ghost use Rattle.std.specs.Prelude.{◌≡◌, ◌≤◌, length};
+ghost use Rattle.std.specs.Prelude.{◌≤◌};
 
 use decoder::{Decoded, Field, MaxSize};
 use dynamic::Table;
 use listed::{Listed, RECORDS};
+use script::answer::Answer;
 use script::input::Command;
-use script::text::Line;
-use script::{answer, say, text};
+use script::text::Trimmed;
+use script::values;
+use std::io::Write;
+use std::{fmt, io};
 
-fn wide(x: u8) -> usize {
-    x as usize
+// The records that were lent, each of them three times the fill byte before the call: where its bytes start, and how many its name and its value have.
+#[derive(Clone, Copy)]
+struct Records<'a> {
+    lent: &'a [[usize; 3]],
+    fill: usize,
 }
 
-// Records that were never written.
-fn blank(fill: usize) -> [[usize; 3]; RECORDS]
-    ensures { 1024 ≡ length result }
-{
-    [[fill; 3]; RECORDS]
+impl fmt::Display for Records<'_> {
+    fn fmt<W: fmt::Write>(&self, f: &mut fmt::Formatter<W>) -> fmt::Result {
+        let shown = Trimmed::new(self.lent, &[self.fill; 3]);
+        write!(f, " records")?;
+        for [start, name, value] in shown.kept {
+            write!(f, " {start}:{name}:{value}")?;
+        }
+        write!(f, "{}", shown.rest)
+    }
+}
+
+fn fill_of(c: &Command) -> usize {
+    usize::from(c.fill.unwrap_or(0))
 }
 
 // How many records a command lends.
-fn lent_of(n: u64) -> usize
+fn count_of(c: &Command) -> usize
     ensures { result ≤ 1024 }
 {
-    (n % 1025) as usize
+    RECORDS.min(c.numbers[0] as usize)
 }
 
-// Whether a record is one that was never written.
-fn is_filled(r: [usize; 3], fill: usize) -> bool {
-    (r[0] ^ fill) | (r[1] ^ fill) | (r[2] ^ fill) == 0
-}
-
-// How many of the first records there are up to the last one that was written.
-fn kept(records: [[usize; 3]; RECORDS], count: usize, fill: usize) -> usize
-    requires { count ≤ 1024 }
-    ensures { result ≤ count }
-{
-    let mut n = count;
-    while 0 < n {
-        let r = records[n - 1];
-        if !is_filled(r, fill) {
-            return n;
-        }
-        n -= 1;
-    }
-    n
-}
-
-// A record: where its bytes start, and how many its name and its value have.
-fn record(line: Line, r: [usize; 3]) -> Line {
-    let line = text::byte(text::number(line, r[0]), b':');
-    let line = text::byte(text::digits(line, r[1] as u64), b':');
-    text::digits(line, r[2] as u64)
-}
-
-// The first records.
-fn all(line: Line, records: [[usize; 3]; RECORDS], count: usize, fill: usize) -> Line
-    requires { count ≤ 1024 }
-{
-    let n = kept(records, count, fill);
-    let mut next = text::word(line, b"records");
-    let mut i = 0;
-    while i < n {
-        let r = records[i];
-        next = record(next, r);
-        i += 1;
-    }
-    text::more(next, count - n)
-}
-
-// A section's answer and its numbers.
-fn decoded(d: Decoded) -> Line {
-    let reply = d.reply;
-    let values = [answer::bit(d.dynamic), d.count, d.used, d.size, 0, 0];
-    say::line_of(answer::replied(reply, 4, values))
-}
-
-// Writes a section's answer, the lent records and the buffer.
-fn tell(d: Decoded, records: [[usize; 3]; RECORDS], count: usize, out: &[u8], fill: u8)
-    requires { count ≤ 1024 }
-{
-    let line = all(decoded(d), records, count, wide(fill));
-    text::end(text::buffer(line, out, fill));
-}
-
-fn max_of(bytes: u64) -> MaxSize {
+fn max_of(c: &Command) -> MaxSize {
     MaxSize {
-        bytes: bytes as usize,
+        bytes: c.numbers[1] as usize,
     }
 }
 
-pub fn on_table(t: Table, c: Command, arena: &[u8], s: &[u8], out: &mut [u8]) {
-    let count = lent_of(c.a);
-    let mut records = blank(wide(c.fill));
-    text::fill(out, c.fill);
-    let d = decoder::read_on(s, arena, t, &mut records[..count], out);
-    tell(d, records, count, out, c.fill);
+// Writes a section's answer, its numbers and the lent records.
+fn tell<W: Write>(
+    c: &Command,
+    section: Decoded,
+    lent: &[[usize; 3]],
+    out: &mut W,
+) -> io::Result<()> {
+    let answer = Answer {
+        reply: section.reply,
+        values: values![section.dynamic, section.count, section.used, section.size],
+    };
+    let records = Records {
+        lent,
+        fill: fill_of(c),
+    };
+    write!(out, "{answer}{records}")
 }
 
-pub fn stateless(c: Command, s: &[u8], out: &mut [u8]) {
-    let count = lent_of(c.a);
-    let mut records = blank(wide(c.fill));
-    text::fill(out, c.fill);
-    let d = decoder::read_stateless(s, max_of(c.b), &mut records[..count], out);
-    tell(d, records, count, out, c.fill);
+pub fn on_table<W: Write>(
+    c: &Command,
+    table: &Table,
+    arena: &[u8],
+    buffer: &mut [u8],
+    out: &mut W,
+) -> io::Result<()> {
+    let mut records = [[fill_of(c); 3]; RECORDS];
+    let lent = &mut records[..count_of(c)];
+    let section = decoder::read_on(c.name, arena, table, lent, buffer);
+    tell(c, section, lent, out)
+}
+
+pub fn stateless<W: Write>(c: &Command, buffer: &mut [u8], out: &mut W) -> io::Result<()> {
+    let mut records = [[fill_of(c); 3]; RECORDS];
+    let lent = &mut records[..count_of(c)];
+    let section = decoder::read_stateless(c.name, max_of(c), lent, buffer);
+    tell(c, section, lent, out)
 }
 
 // A record that was never written.
-fn blank_field(fill: usize) -> Field {
+fn blank(c: &Command) -> Field {
+    let fill = fill_of(c);
     Field {
         start: fill,
         name: fill,
@@ -115,40 +94,26 @@ fn blank_field(fill: usize) -> Field {
     }
 }
 
-// A list's records as three numbers each.
-fn numbers_of(fields: [Field; RECORDS]) -> [[usize; 3]; RECORDS]
-    ensures { 1024 ≡ length result }
-{
-    let mut records = blank(0);
-    let mut i = 0;
-    while i < RECORDS {
-        let f = fields[i];
-        records[i] = [f.start, f.name, f.value];
-        i += 1;
-    }
-    records
+// Writes a section's answer, its numbers and the first records of a list of structs.
+fn tell_listed<W: Write>(c: &Command, listed: Listed, out: &mut W) -> io::Result<()> {
+    let records = listed
+        .fields
+        .map(|field| [field.start, field.name, field.value]);
+    tell(c, listed.decoded, &records[..count_of(c)], out)
 }
 
-// Writes a section's answer, the lent records of a list of structs, and the buffer.
-fn tell_listed(l: Listed, count: usize, out: &[u8], fill: u8)
-    requires { count ≤ 1024 }
-{
-    let fields = l.fields;
-    tell(l.decoded, numbers_of(fields), count, out, fill);
+pub fn decode_header<W: Write>(
+    c: &Command,
+    table: &Table,
+    arena: &[u8],
+    buffer: &mut [u8],
+    out: &mut W,
+) -> io::Result<()> {
+    let listed = listed::decode_header_listed(c.name, arena, table, blank(c), count_of(c), buffer);
+    tell_listed(c, listed, out)
 }
 
-pub fn decode_header(t: Table, c: Command, arena: &[u8], s: &[u8], out: &mut [u8]) {
-    let count = lent_of(c.a);
-    let blank = blank_field(wide(c.fill));
-    text::fill(out, c.fill);
-    let l = listed::decode_header_listed(s, arena, t, blank, count, out);
-    tell_listed(l, count, out, c.fill);
-}
-
-pub fn decode_stateless(c: Command, s: &[u8], out: &mut [u8]) {
-    let count = lent_of(c.a);
-    let blank = blank_field(wide(c.fill));
-    text::fill(out, c.fill);
-    let l = listed::decode_stateless_listed(s, max_of(c.b), blank, count, out);
-    tell_listed(l, count, out, c.fill);
+pub fn decode_stateless<W: Write>(c: &Command, buffer: &mut [u8], out: &mut W) -> io::Result<()> {
+    let listed = listed::decode_stateless_listed(c.name, max_of(c), blank(c), count_of(c), buffer);
+    tell_listed(c, listed, out)
 }

@@ -1,20 +1,12 @@
 // One step of a section, from a cursor that a script gives.
-use decoder::{Begun, Cursor, Decoded, Field, Line, MaxSize};
+use decoder::{Cursor, Line, MaxSize};
 use dynamic::Table;
+use script::answer::{Answer, Values};
 use script::input::Command;
-use script::{answer, say, text};
-use vas::VirtualAddressSpace;
+use script::values;
 
 // The cursor that seven numbers are.
-fn cursor(
-    started: u64,
-    dynamic: u64,
-    base: u64,
-    at: u64,
-    used: u64,
-    count: u64,
-    size: u64,
-) -> Cursor {
+fn cursor_of([started, dynamic, base, at, used, count, size]: [u64; 7]) -> Cursor {
     Cursor {
         started: started % 2 == 1,
         dynamic: dynamic % 2 == 1,
@@ -26,98 +18,70 @@ fn cursor(
     }
 }
 
-// The cursor that a command's numbers are, from the second on.
-fn cursor_of(c: Command) -> Cursor {
-    cursor(c.b, c.c, c.d, c.e, c.f, c.g, c.h)
+// The room for records, the cursor, and the most bytes, that a step's numbers are.
+fn step_of(c: &Command) -> (usize, Cursor, MaxSize) {
+    let [records, started, dynamic, base, at, used, count, size, max] = c.numbers;
+    let cursor = cursor_of([started, dynamic, base, at, used, count, size]);
+    let max = MaxSize {
+        bytes: max as usize,
+    };
+    (records as usize, cursor, max)
 }
 
-// Whether the section is done, and the field.
-fn first_of(done: bool, f: Field) -> [usize; 6] {
-    [answer::bit(done), f.start, f.name, f.value, 0, 0]
-}
-
-// The cursor but for its size.
-fn next_of(c: Cursor) -> [usize; 6] {
-    [
-        answer::bit(c.started),
-        answer::bit(c.dynamic),
-        c.base,
-        c.at,
-        c.used,
-        c.count,
+// Whether the section is done, the field's three numbers, the cursor past it, and the section's four numbers.
+fn step_values(done: bool, field: [usize; 3], c: Cursor, section: [usize; 4]) -> Values {
+    let [start, name, value] = field;
+    let [dynamic, count, used, size] = section;
+    values![
+        done, start, name, value, c.started, c.dynamic, c.base, c.at, c.used, c.count, c.size,
+        dynamic, count, used, size
     ]
 }
 
-// The cursor's size, and the section's numbers.
-fn last_of(size: usize, d: Decoded) -> [usize; 6] {
-    [size, answer::bit(d.dynamic), d.count, d.used, d.size, 0]
-}
-
-// Writes what a step gave, and the output buffer.
-fn tell(l: Line, out: &[u8], fill: u8) {
-    let d = l.decoded;
-    let reply = d.reply;
-    let line = say::line_of(answer::replied(reply, 4, first_of(l.done, l.field)));
-    let line = say::values(line, 0, 6, next_of(l.next));
-    let line = say::values(line, 0, 5, last_of(l.next.size, d));
-    text::end(text::buffer(line, out, fill));
-}
-
-// Writes a cursor.
-fn tell_cursor(c: Cursor) {
-    let line = say::line_of(answer::done());
-    let line = say::values(line, 0, 6, next_of(c));
-    text::end(say::values(line, 0, 1, [c.size; 6]));
-}
-
-// Writes the cursor past a prefix.
-fn tell_begun(b: Begun) {
-    match b {
-        Begun::Refused(why) => say::say(answer::refused(why)),
-        Begun::At(c) => tell_cursor(c),
+// A section that is done has no field, and one that goes on no numbers of its own.
+fn told(line: Line) -> Answer {
+    match line {
+        Line::Ended(reply, c) => {
+            let section = [usize::from(c.dynamic), c.count, c.used, c.size];
+            Answer {
+                reply,
+                values: step_values(true, [0; 3], c, section),
+            }
+        }
+        Line::Found(f, c) => {
+            let field = [f.start, f.name, f.value];
+            Answer::from(Ok(step_values(false, field, c, [0; 4])))
+        }
     }
 }
 
-pub fn begin() {
-    tell_cursor(section_steps::begin());
+fn cursor(c: Cursor) -> Values {
+    values![c.started, c.dynamic, c.base, c.at, c.used, c.count, c.size]
 }
 
-pub fn begin_on(t: Table, c: Command, arena: &[u8], s: &[u8]) {
-    let from = cursor(c.a, c.b, c.c, c.d, c.e, c.f, c.g);
-    tell_begun(section_steps::begin_on(s, arena, t, from));
+pub fn begin() -> Answer {
+    Answer::from(Ok(cursor(section_steps::begin())))
 }
 
-pub fn line_on(t: Table, c: Command, arena: &[u8], s: &[u8], out: &mut [u8]) {
-    text::fill(out, c.fill);
-    let live = VirtualAddressSpace {
-        inserted: t.ring.inserted,
-        dropped: t.ring.dropped,
-    };
-    let l = section_steps::line_on(
-        s,
-        arena,
-        &t.ring.starts,
-        &t.ring.names,
-        &t.ring.values,
-        live,
-        c.a as usize,
-        out,
-        cursor_of(c),
-    );
-    tell(l, out, c.fill);
+pub fn begin_on(c: &Command, table: &Table, arena: &[u8]) -> Answer {
+    let [started, dynamic, base, at, used, count, size, ..] = c.numbers;
+    let from = cursor_of([started, dynamic, base, at, used, count, size]);
+    let begun = section_steps::begin_on(c.name, arena, table, from);
+    Answer::from(begun.map(cursor))
 }
 
-pub fn on_table(t: Table, c: Command, arena: &[u8], s: &[u8], out: &mut [u8]) {
-    text::fill(out, c.fill);
-    let l = decoder::next_on(s, arena, t, c.a as usize, out, cursor_of(c));
-    tell(l, out, c.fill);
+pub fn line_on(c: &Command, table: &Table, arena: &[u8], buffer: &mut [u8]) -> Answer {
+    let (room, from, _) = step_of(c);
+    let line = section_steps::line_on(c.name, arena, &table.ring, room, buffer, from);
+    told(line)
 }
 
-pub fn stateless(c: Command, s: &[u8], out: &mut [u8]) {
-    text::fill(out, c.fill);
-    let max = MaxSize {
-        bytes: c.i as usize,
-    };
-    let l = decoder::next_stateless(s, max, c.a as usize, out, cursor_of(c));
-    tell(l, out, c.fill);
+pub fn on_table(c: &Command, table: &Table, arena: &[u8], buffer: &mut [u8]) -> Answer {
+    let (room, from, _) = step_of(c);
+    told(decoder::next_on(c.name, arena, table, room, buffer, from))
+}
+
+pub fn stateless(c: &Command, buffer: &mut [u8]) -> Answer {
+    let (room, from, max) = step_of(c);
+    told(decoder::next_stateless(c.name, max, room, buffer, from))
 }

@@ -6,9 +6,11 @@ use Prim.Native.Nat.{ℕ, ◌+◌, ◌≤◌}
 use native.Mathlib.Omega.{arith}
 use lib.ListN.{length, drop}
 use lib.Seq.{sets, take-add, drop-drop}
-use Rattle.answers.specs.Answer.{done}
+use Rattle.std.specs.Prelude.{Result, Ok, Err}
+use Rattle.std.specs.Result.{IsOk}
+use Rattle.answers.specs.declared.Refusal.{Refusal}
+use Rattle.answers.specs.Answer.{answered, done}
 use Rattle.answers.specs.Write.{Writes}
-use Rattle.answers.specs.declared.Written.{Written}
 use Rattle.answers.proofs.Write.{writes_sets, sets_append}
 use Rattle.arena.specs.Ring.{long_enough, ring_read, ring_cut}
 use Rattle.arena.proofs.RingRead.{length_ring_read}
@@ -22,35 +24,42 @@ use Rattle.static_table.proofs.Copied.{cut_done}
 use Rattle.static_table.proofs.Table.{size}
 use Rattle.section_steps.specs.Section.{length_of, Ready}
 
+ok_of : (r : Result ℕ Refusal) (n : ℕ) → answered r ≡ done n → IsOk r
+ok_of (Ok x) n h = refl
+ok_of (Err w) n h = let z : ◌≡◌ {A = ℕ} 0 1 = cc in absurd (omega arith)
+
 pub text_length : (s a : List ℕ) (t : Text) → TextInside (length s) t → length (text_in s a t) ≡ length_of t
 text_length s a (Text.Input p n) h = cut_length s p n h
 text_length s a (Text.Fixed p n) h = cut_length (laid appendix_a) p n h
 text_length s a (Text.Stored p n) h = length_ring_read a p n
 
 module _ (t : Text) (p n : ℕ) (s a l : List ℕ) (at : ℕ) (m : List ℕ) where
-  pub input_copied : t ≡ Text.Input p n → TextInside (length s) t → at + length_of t ≤ length l → (r : Written) → Writes (stretch_of s p n) l at r m
-      → m ≡ sets l at (text_in s a t)
+  pub input_copied : t ≡ Text.Input p n → TextInside (length s) t → at + length_of t ≤ length l → (r : Result ℕ Refusal) → Writes (stretch_of s p n) l at r m
+      → IsOk r × (m ≡ sets l at (text_in s a t))
   input_copied e h g r w =
       let inside : p + n ≤ length s = rw e at h in
       let room : at + n ≤ length l = rw e at g in
-      rw e (write_sets s p n l at inside r m room w).1
+      let q = write_sets s p n l at inside r m room w in
+      (ok_of r _ q.0, rw e q.1)
 
-  pub fixed_copied : t ≡ Text.Fixed p n → (k : ℕ) → TextInside k t → at + length_of t ≤ length l → (r : Written) → Writes (cut_of p n) l at r m
-      → m ≡ sets l at (text_in s a t)
+  pub fixed_copied : t ≡ Text.Fixed p n → (k : ℕ) → TextInside k t → at + length_of t ≤ length l → (r : Result ℕ Refusal) → Writes (cut_of p n) l at r m
+      → IsOk r × (m ≡ sets l at (text_in s a t))
   fixed_copied e k h g r w =
       let inside : p + n ≤ length (laid appendix_a) = rw e at h in
       let room : at + n ≤ length l = rw e at g in
       let sized : length (cut (laid appendix_a) p n) ≡ n = cut_length (laid appendix_a) p n inside in
       let v : Writes (done (cut (laid appendix_a) p n)) l at r m = rw (cut_done p n inside) at w in
-      rw e (writes_sets (cut (laid appendix_a) p n) l at r m (omega (arith, sized)) v).1
+      let q = writes_sets (cut (laid appendix_a) p n) l at r m (omega (arith, sized)) v in
+      (ok_of r _ q.0, rw e q.1)
 
-  pub stored_copied : t ≡ Text.Stored p n → Ready a t → at + length_of t ≤ length l → (r : Written) → Writes (ring_cut a p n) l at r m
-      → m ≡ sets l at (text_in s a t)
+  pub stored_copied : t ≡ Text.Stored p n → Ready a t → at + length_of t ≤ length l → (r : Result ℕ Refusal) → Writes (ring_cut a p n) l at r m
+      → IsOk r × (m ≡ sets l at (text_in s a t))
   stored_copied e h g r w =
       let long : long_enough a ≡ true = rw e at h in
       let room : at + n ≤ length l = rw e at g in
       let v : Writes (done (ring_read a p n)) l at r m = rw long at w in
-      rw e (writes_sets (ring_read a p n) l at r m (omega (arith, length_ring_read a p n)) v).1
+      let q = writes_sets (ring_read a p n) l at r m (omega (arith, length_ring_read a p n)) v in
+      (ok_of r _ q.0, rw e q.1)
 
 -- a field's two strings under other names: they are as ready, and two copies store them
 module _ (name value x y : Text) (ex : x ≡ name) (ey : y ≡ value) (s a : List ℕ) (at : ℕ) where
@@ -78,12 +87,12 @@ module _ (name value : Text) (p n q v : ℕ) (en : name ≡ Text.Fixed p n) (ev 
 
   -- the value behind the name: both by one copy
   pub whole_copied : (s a l : List ℕ) (at : ℕ) (m : List ℕ) → p + n ≡ q → (k : ℕ) → TextInside k value
-      → at + (length_of name + length_of value) ≤ length l → (r : Written) → Writes (cut_of p (n + v)) l at r m
-      → m ≡ sets l at (text_in s a name ++ text_in s a value)
+      → at + (length_of name + length_of value) ≤ length l → (r : Result ℕ Refusal) → Writes (cut_of p (n + v)) l at r m
+      → IsOk r × (m ≡ sets l at (text_in s a name ++ text_in s a value))
   whole_copied s a l at m behind k h g r w =
       let inside : q + v ≤ length (laid appendix_a) = rw ev at h in
       let whole : p + (n + v) ≤ length (laid appendix_a) = omega arith in
       let one = fixed_copied (Text.Fixed p (n + v)) p (n + v) s a l at m refl k whole (fixed_room at (length l) g) r w in
       let two : cut (laid appendix_a) p (n + v) ≡ text_in s a name ++ text_in s a value =
       rw (en, ev, ← behind, ← drop-drop n p (laid appendix_a)) (take-add n v (drop p (laid appendix_a))) in
-      one ∙ ap (sets l at) two
+      (one.0, one.1 ∙ ap (sets l at) two)

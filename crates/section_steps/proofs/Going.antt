@@ -6,20 +6,19 @@ use Prim.Native.Nat.{ℕ, ◌+◌, ◌≤◌, ◌<◌}
 use native.Mathlib.Omega.{arith}
 use lib.Dec.{leb}
 use lib.ListN.{length, get_or}
+use Rattle.std.specs.Prelude.{Result, Ok, Err}
+use Rattle.answers.specs.declared.Refusal.{Refusal}
 use Rattle.answers.specs.Answer.{Answer, done, refused, and_then}
 use Rattle.answers.specs.declared.Refusal.TheVariants.{UnexpectedEnd, MissingRefs, OutputFull, HeaderTooLong}
-use Rattle.answers.specs.declared.Reply.{Reply}
 use Rattle.answers.proofs.Then.{then_done}
-use Rattle.field.specs.Field.{overhead}
+use Rattle.field.specs.Field.{overhead, Field}
 use Rattle.block.specs.Lines.{FieldLine, indexed, named, literal, line_at}
 use Rattle.line_writing.specs.declared.Reference.{Reference}
 use Rattle.block.proofs.Found.{Lies, line_lies}
 use Rattle.field_lines.specs.Line.{Read, entry_on, entry_static, field_of_line, line_on, line_static, live_of, is_post_base}
-use Rattle.field.specs.Field.{Field}
 use Rattle.forms.specs.Forms.{line_kind}
-use Rattle.section_steps.specs.Section.{Reader, on_table, stateless, line_with, most_of, cursor_at, ended_of, found_of, is_over, fits, placed_of, field_step, step_of, line_from, line_of}
+use Rattle.section_steps.specs.Section.{Line, Reader, on_table, stateless, line_with, most_of, cursor_at, ended_of, found_of, is_over, fits, placed_of, field_step, step_of, line_from, line_of}
 use Rattle.section_steps.specs.declared.Cursor.{Cursor}
-use Rattle.section_steps.specs.declared.Line.{Line}
 use Rattle.section_steps.proofs.Placing.{fits_facts}
 use Rattle.section_steps.proofs.Stepping.{same_count}
 
@@ -68,7 +67,7 @@ pub record Goes (k : Reader) (s : List ℕ) (room : ℕ) (c : Cursor) (l : Line)
   pub started : l.next.started ≡ cursor.started
   pub count : l.next.count ≡ c.count + 1
 
-no_line : {A : Type 0} (y : Reply) (c : Cursor) → (ended_of y c).done ≡ false → A
+no_line : {A : Type 0} (y : Result Unit Refusal) (c : Cursor) → (ended_of y c).done ≡ false → A
 no_line y c h = let z : ◌≡◌ {A = ℕ} 0 1 = cc in absurd (omega arith)
 
 module _ (k : Reader) (s : List ℕ) (room cap : ℕ) (c : Cursor) where
@@ -85,10 +84,10 @@ module _ (k : Reader) (s : List ℕ) (room cap : ℕ) (c : Cursor) where
         j = length f.field.value
 
         go : (x y : Bool) → fits room cap d i j ≡ y
-            → (cond x (ended_of (Reply.Refused HeaderTooLong) d) (cond y (found_of d i j f.next) (ended_of (Reply.Refused OutputFull) d))).done ≡ false
-            → Goes k s room c (cond x (ended_of (Reply.Refused HeaderTooLong) d) (cond y (found_of d i j f.next) (ended_of (Reply.Refused OutputFull) d)))
-        go true y e g = no_line (Reply.Refused HeaderTooLong) d g
-        go false false e g = no_line (Reply.Refused OutputFull) d g
+            → (cond x (ended_of (Err HeaderTooLong) d) (cond y (found_of d i j f.next) (ended_of (Err OutputFull) d))).done ≡ false
+            → Goes k s room c (cond x (ended_of (Err HeaderTooLong) d) (cond y (found_of d i j f.next) (ended_of (Err OutputFull) d)))
+        go true y e g = no_line (Err HeaderTooLong) d g
+        go false false e g = no_line (Err OutputFull) d g
         go false true e g =
             let same = same_count k s c d h in
             record {
@@ -104,10 +103,10 @@ module _ (k : Reader) (s : List ℕ) (room cap : ℕ) (c : Cursor) where
     step_goes = go (leb (length s) d.at) (line_with k d.base s d.at) refl
       where
         go : (x : Bool) (r : Answer Read) → line_with k d.base s d.at ≡ r
-            → (cond x (ended_of Reply.Done d) (field_step (most_of k) room cap d r)).done ≡ false
-            → Goes k s room c (cond x (ended_of Reply.Done d) (field_step (most_of k) room cap d r))
-        go true r e g = no_line Reply.Done d g
-        go false (refused r) e g = no_line (Reply.Refused r) d g
+            → (cond x (ended_of (Ok tt) d) (field_step (most_of k) room cap d r)).done ≡ false
+            → Goes k s room c (cond x (ended_of (Ok tt) d) (field_step (most_of k) room cap d r))
+        go true r e g = no_line (Ok tt) d g
+        go false (refused r) e g = no_line (Err r) d g
         go false (done f) e g = placed_goes f (field_ends k d.base s d.at f e) g
 
   pub line_goes : (line_of k s room cap c).done ≡ false → Goes k s room c (line_of k s room cap c)
@@ -115,5 +114,5 @@ module _ (k : Reader) (s : List ℕ) (room cap : ℕ) (c : Cursor) where
   line_goes = go (cursor_at k s c) refl
     where
       go : (r : Answer Cursor) → cursor_at k s c ≡ r → (line_from k s room cap c r).done ≡ false → Goes k s room c (line_from k s room cap c r)
-      go (refused r) e g = no_line (Reply.Refused r) c g
+      go (refused r) e g = no_line (Err r) c g
       go (done d) e g = step_goes d e g

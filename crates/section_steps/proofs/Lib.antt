@@ -1,4 +1,3 @@
-pub mod Sizes
 pub mod Starting
 pub mod Copying
 pub mod Placing

@@ -5,15 +5,14 @@ use mathlib.Core.Option.{none}
 use Prim.Native.Nat.{ℕ, ◌≤◌, ◌<◌}
 use lib.ListN.{length}
 use borrow.Author.Tests.{le-leb, lt-leb}
+use Rattle.std.specs.Prelude.{Ok, Err}
 use Rattle.answers.specs.Answer.{Answer, done}
 use Rattle.answers.specs.declared.Refusal.TheVariants.{BadCall}
-use Rattle.answers.specs.declared.Reply.{Reply}
 use Rattle.arena.specs.Ring.{ring}
 use Rattle.dynamic.specs.declared.Table.{Table}
 use Rattle.field_lines.specs.Line.{Read, Live, line_on, line_static, live_of}
-use Rattle.section_steps.specs.Section.{on_table, stateless, line_with, cursor_at, ended_of, field_step, line_of, bytes_of, bytes_at, stored_by, line_in, out_in}
+use Rattle.section_steps.specs.Section.{Line, on_table, stateless, line_with, cursor_at, ended_of, field_step, line_of, bytes_of, bytes_at, stored_by, line_in, out_in}
 use Rattle.section_steps.specs.declared.Cursor.{Cursor}
-use Rattle.section_steps.specs.declared.Line.{Line}
 use Rattle.section_steps.proofs.Stepping.{Next, long_there, same_used}
 
 pub line_static_lem : (most base : ℕ) (s : List ℕ) (at : ℕ) → line_static s at ≡ line_with (stateless most) base s at
@@ -27,11 +26,11 @@ pub record NextIn (v : Live) (a s l m : List ℕ) (room : ℕ) (c : Cursor) (y :
   pub bytes : m ≡ out_in v s c l y
 
 module _ (v : Live) (a s l : List ℕ) (room : ℕ) (c : Cursor) (y : Line) where
-  pub in_short : length a < ring → y ≡ ended_of (Reply.Refused BadCall) c → NextIn v a s l l room c y
+  pub in_short : length a < ring → y ≡ ended_of (Err BadCall) c → NextIn v a s l l room c y
   in_short h e = record { answer = rw (e, lt-leb ring (length a) h); bytes = rw e }
 
   module _ (long : ring ≤ length a) where
-    pub in_ended : length s ≤ c.at → y ≡ ended_of Reply.Done c → NextIn v a s l l room c y
+    pub in_ended : length s ≤ c.at → y ≡ ended_of (Ok tt) c → NextIn v a s l l room c y
     in_ended over e = record { answer = rw (e, le-leb ring (length a) long, le-leb (length s) c.at over); bytes = rw e }
 
     pub in_placed : c.at < length s → (x : Answer Read) → x ≡ line_on v c.base s c.at

@@ -7,22 +7,21 @@ use native.Mathlib.Omega.{arith}
 use lib.Dec.{leb}
 use lib.ListN.{length}
 use borrow.Author.Tests.{le-leb, lt-leb}
+use Rattle.std.specs.Prelude.{Result, Ok, Err}
 use Rattle.answers.specs.Answer.{Answer, done, refused, and_then}
 use Rattle.answers.specs.declared.Refusal.{Refusal}
 use Rattle.answers.specs.declared.Refusal.TheVariants.{SectionOpen, BadCall}
-use Rattle.answers.specs.declared.Reply.{Reply}
 use Rattle.answers.proofs.Then.{then_done}
 use Rattle.arena.specs.Ring.{ring, long_enough}
 use Rattle.dynamic.specs.Record.{sound}
 use Rattle.dynamic.specs.declared.Table.{Table}
 use Rattle.field_lines.specs.Line.{Read, FieldInside, FieldFixed, NotStored}
-use Rattle.field_lines.specs.declared.FieldRead.{FieldRead}
+use Rattle.field_lines.specs.declared.FieldAt.{FieldAt}
 use Rattle.line_entries.specs.declared.Text.{Text}
-use Rattle.header_prefix.specs.Prefix.{Prefix, prefix_at}
-use Rattle.section_steps.specs.Section.{Reader, on_table, stateless, start_of, line_with, most_of, begun, when_long, cursor_at, ended_of, field_step, line_of}
-use Rattle.section_steps.specs.Section.{bytes_of, bytes_at, stored_by, out_of, Ready, LineReady}
+use Rattle.header_prefix.specs.Prefix.{prefix_at}
+use Rattle.header_prefix.specs.declared.Prefix.{Prefix}
+use Rattle.section_steps.specs.Section.{Line, Reader, on_table, stateless, start_of, line_with, most_of, begun, when_long, cursor_at, ended_of, field_step, line_of, bytes_of, bytes_at, stored_by, out_of, Ready, LineReady}
 use Rattle.section_steps.specs.declared.Cursor.{Cursor}
-use Rattle.section_steps.specs.declared.Line.{Line}
 
 -- ---- the cursor past the prefix
 
@@ -95,18 +94,18 @@ ready_text a h (Text.Input p n) = tt
 ready_text a h (Text.Fixed p n) = tt
 ready_text a h (Text.Stored p n) = h
 
-pub ready_on : (s a : List ℕ) (at : ℕ) (r : FieldRead) → long_enough a ≡ true → FieldInside s at r → LineReady s a r
-ready_on s a at (FieldRead.Field n v e) h w = (w.0, w.1, ready_text a h n, ready_text a h v)
-ready_on s a at (FieldRead.Refused r) h w = tt
+pub ready_on : (s a : List ℕ) (at : ℕ) (r : Result FieldAt Refusal) → long_enough a ≡ true → FieldInside s at r → LineReady s a r
+ready_on s a at (Ok f) h w = (w.0, w.1, ready_text a h f.name, ready_text a h f.value)
+ready_on s a at (Err r) h w = tt
 
 ready_fixed : (a : List ℕ) (t : Text) → NotStored t → Ready a t
 ready_fixed a (Text.Input p n) h = tt
 ready_fixed a (Text.Fixed p n) h = tt
 ready_fixed a (Text.Stored p n) h = absurd h
 
-pub ready_static : (s a : List ℕ) (at : ℕ) (r : FieldRead) → FieldFixed r → FieldInside s at r → LineReady s a r
-ready_static s a at (FieldRead.Field n v e) h w = (w.0, w.1, ready_fixed a n h.0, ready_fixed a v h.1)
-ready_static s a at (FieldRead.Refused r) h w = tt
+pub ready_static : (s a : List ℕ) (at : ℕ) (r : Result FieldAt Refusal) → FieldFixed r → FieldInside s at r → LineReady s a r
+ready_static s a at (Ok f) h w = (w.0, w.1, ready_fixed a f.name h.0, ready_fixed a f.value h.1)
+ready_static s a at (Err r) h w = tt
 
 -- ---- the step
 
@@ -115,12 +114,12 @@ pub record Next (k : Reader) (s l m : List ℕ) (room : ℕ) (c : Cursor) (y : L
   pub bytes : m ≡ out_of k s c l y
 
 module _ (k : Reader) (s l : List ℕ) (room : ℕ) (c : Cursor) (y : Line) where
-  pub next_refused : (r : Refusal) → cursor_at k s c ≡ refused r → y ≡ ended_of (Reply.Refused r) c → Next k s l l room c y
+  pub next_refused : (r : Refusal) → cursor_at k s c ≡ refused r → y ≡ ended_of (Err r) c → Next k s l l room c y
   unfolding line_of
   next_refused r h e = record { answer = rw (e, h); bytes = rw e }
 
   module _ (d : Cursor) (h : cursor_at k s c ≡ done d) where
-    pub next_ended : length s ≤ d.at → y ≡ ended_of Reply.Done d → Next k s l l room c y
+    pub next_ended : length s ≤ d.at → y ≡ ended_of (Ok tt) d → Next k s l l room c y
     unfolding line_of
     next_ended over e = record { answer = rw (e, h, le-leb (length s) d.at over); bytes = rw e }
 

@@ -1,23 +1,24 @@
 -- One step of reading a section, RFC 9204 4.5: on a table, and with none.
-use Rattle.std.specs.Prelude.{◌≡◌, Bool, true, false, ◌&&◌, cond, List, [], ◌++◌, ℕ, ◌+◌, ◌-◌, ◌^◌, leb, ltb, length}
+use Rattle.std.specs.Prelude.{Result, Ok, Err, Some, None, Option as Maybe, ◌≡◌, Bool, true, false, ◌&&◌, cond, List, [], ◌++◌, ℕ, ◌+◌, ◌-◌, ◌^◌, leb, ltb, length}
 use Rattle.std.proofs.Math.Option.{Option, some, none}
 use Rattle.std.proofs.lemmas.List.Edits.{sets}
+use Rattle.answers.specs.declared.Refusal.{Refusal}
 use Rattle.answers.specs.Answer.{Answer, done, refused, and_then}
 use Rattle.answers.specs.declared.Refusal.TheVariants.{SectionOpen, BadCall, OutputFull, HeaderTooLong}
-use Rattle.answers.specs.declared.Reply.{Reply}
 use Rattle.arena.specs.Ring.{long_enough}
 use Rattle.dynamic.specs.Record.{usable}
 use Rattle.dynamic.specs.declared.Table.{Table}
 use Rattle.field.specs.Field as model
 use Rattle.field_lines.specs.Line.{Read, Live, line_on, line_static, live_of, TextInside}
-use Rattle.field_lines.specs.declared.FieldRead.{FieldRead}
+use Rattle.field_lines.specs.declared.FieldAt.{FieldAt}
 use Rattle.line_entries.specs.declared.Text.{Text}
-use Rattle.header_prefix.specs.Prefix.{Prefix, prefix_at}
-use Rattle.section_steps.specs.declared.Begun.{Begun}
+use Rattle.header_prefix.specs.Prefix.{prefix_at}
+use Rattle.header_prefix.specs.declared.Prefix.{Prefix}
 use Rattle.section_steps.specs.declared.Cursor.{Cursor}
 use Rattle.section_steps.specs.declared.Field.{Field}
-use Rattle.section_steps.specs.declared.Line.{Line}
-use Rattle.section_steps.specs.declared.Limit.{Limit}
+use Rattle.section_steps.specs.declared.Decoded.{Decoded}
+use Rattle.section_steps.specs.declared.Line.{Line as CodeLine}
+use Rattle.section_steps.specs.declared.Line.TheVariants as code
 
 -- ---- the two readers
 
@@ -75,15 +76,30 @@ cursor_at k s c = cond c.started (when_long k c) (and_then (start_of k s) (λ p.
 abbrev pub no_field : Field
 no_field = record { start = 0; name = 0; value = 0 }
 
+-- what a step finds: the end, with the answer; or a field, with its record and where to go on
+pub record Line : Type 0 where
+  pub done : Bool
+  pub field : Field
+  pub next : Cursor
+  pub decoded : Decoded
+
+-- the answer of a section that ends at a cursor
+abbrev pub decoded_of : Result Unit Refusal → Cursor → Decoded
+decoded_of y c = record { reply = y; dynamic = c.dynamic; count = c.count; used = c.used; size = c.size }
+
 -- the section ends here, with an answer
-abbrev pub ended_of : Reply → Cursor → Line
+abbrev pub ended_of : Result Unit Refusal → Cursor → Line
 ended_of y c =
     record {
       done = true;
       field = no_field;
       next = c;
-      decoded = record { reply = y; dynamic = c.dynamic; count = c.count; used = c.used; size = c.size };
+      decoded = decoded_of y c;
     }
+
+-- no answer yet
+abbrev pub not_ended : Decoded
+not_ended = record { reply = (Ok tt); dynamic = false; count = 0; used = 0; size = 0 }
 
 -- a field of n and v bytes, whose line ends at a position
 abbrev pub found_of : Cursor → ℕ → ℕ → ℕ → Line
@@ -100,8 +116,13 @@ found_of c n v next =
         count = c.count + 1;
         size = c.size + (n + v + model.overhead);
       };
-      decoded = record { reply = Reply.Done; dynamic = false; count = 0; used = 0; size = 0 };
+      decoded = not_ended;
     }
+
+-- a step as the code has it
+abbrev pub line_told : CodeLine → Line
+line_told (code.Ended y c) = ended_of y c
+line_told (code.Found f c) = record { done = false; field = f; next = c; decoded = not_ended }
 
 -- "25: stateless size sum above the given maximum, tested after each line"
 abbrev pub is_over : Option ℕ → ℕ → Bool
@@ -121,22 +142,22 @@ fits room cap c n v =
 abbrev pub placed_of : Option ℕ → ℕ → ℕ → Cursor → ℕ → ℕ → ℕ → Line
 placed_of most room cap c n v next =
     cond (is_over most (c.size + (n + v + model.overhead)))
-    (ended_of (Reply.Refused HeaderTooLong) c)
-    (cond (fits room cap c n v) (found_of c n v next) (ended_of (Reply.Refused OutputFull) c))
+    (ended_of (Err HeaderTooLong) c)
+    (cond (fits room cap c n v) (found_of c n v next) (ended_of (Err OutputFull) c))
 
 abbrev pub field_step : Option ℕ → ℕ → ℕ → Cursor → Answer Read → Line
-field_step most room cap c (refused r) = ended_of (Reply.Refused r) c
+field_step most room cap c (refused r) = ended_of (Err r) c
 field_step most room cap c (done f) = placed_of most room cap c (length f.field.name) (length f.field.value) f.next
 
 -- at the end of the section it is done; before it, what the line at the cursor gives
 abbrev pub step_by : Option ℕ → Answer Read → List ℕ → ℕ → ℕ → Cursor → Line
-step_by most line s room cap c = cond (leb (length s) c.at) (ended_of Reply.Done c) (field_step most room cap c line)
+step_by most line s room cap c = cond (leb (length s) c.at) (ended_of (Ok tt) c) (field_step most room cap c line)
 
 abbrev pub step_of : Reader → List ℕ → ℕ → ℕ → Cursor → Line
 step_of k s room cap c = step_by (most_of k) (line_with k c.base s c.at) s room cap c
 
 abbrev pub line_from : Reader → List ℕ → ℕ → ℕ → Cursor → Answer Cursor → Line
-line_from k s room cap c (refused r) = ended_of (Reply.Refused r) c
+line_from k s room cap c (refused r) = ended_of (Err r) c
 line_from k s room cap c (done d) = step_of k s room cap d
 
 -- room: how many records the list holds; cap: how many bytes the buffer holds
@@ -163,20 +184,16 @@ out_of k s c out l = stored_by c out l (bytes_at k s c)
 -- "22: short arena", at every step
 abbrev pub line_in : Live → List ℕ → List ℕ → ℕ → ℕ → Cursor → Line
 line_in v a s room cap c =
-    cond (long_enough a) (step_by none (line_on v c.base s c.at) s room cap c) (ended_of (Reply.Refused BadCall) c)
+    cond (long_enough a) (step_by none (line_on v c.base s c.at) s room cap c) (ended_of (Err BadCall) c)
 
 abbrev pub out_in : Live → List ℕ → Cursor → List ℕ → Line → List ℕ
 out_in v s c out l = stored_by c out l (bytes_of (line_on v c.base s c.at))
 
 -- ---- what the code holds
 
-abbrev pub begun_by : Begun → Answer Cursor
-begun_by (Begun.At c) = done c
-begun_by (Begun.Refused r) = refused r
-
-abbrev pub limit_of : Limit → Option ℕ
-limit_of Limit.None = none
-limit_of (Limit.Most m) = some m
+abbrev pub limit_of : Maybe ℕ → Option ℕ
+limit_of None = none
+limit_of (Some m) = some m
 
 abbrev pub length_of : Text → ℕ
 length_of (Text.Input p n) = n
@@ -189,6 +206,6 @@ Ready a (Text.Input p n) = Unit {0}
 Ready a (Text.Fixed p n) = Unit {0}
 Ready a (Text.Stored p n) = long_enough a ≡ true
 
-abbrev pub LineReady : List ℕ → List ℕ → FieldRead → Type 0
-LineReady s a (FieldRead.Field n v e) = TextInside (length s) n × TextInside (length s) v × Ready a n × Ready a v
-LineReady s a (FieldRead.Refused r) = Unit {0}
+abbrev pub LineReady : List ℕ → List ℕ → Result FieldAt Refusal → Type 0
+LineReady s a (Ok f) = TextInside (length s) f.name × TextInside (length s) f.value × Ready a f.name × Ready a f.value
+LineReady s a (Err r) = Unit {0}

@@ -3,42 +3,18 @@
 
 ghost use Rattle.std.specs.Prelude.{◌≡◌, ◌++◌, ℕ, ◌+◌, ◌^◌, ◌<◌, ◌≤◌, ltb, length};
 ghost use Rattle.std.proofs.lemmas.List.Edits.{sets};
-ghost use Rattle.answers.specs.Answer.{done, and_then};
+ghost use Rattle.answers.specs.Answer.{answered};
 ghost use Rattle.field.specs.Field.{overhead};
-ghost use Rattle.field_lines.specs.Line.{text_in, TextInside, field_read, live_in};
-ghost use Rattle.header_prefix.specs.Prefix.{prefix_read};
-ghost use Rattle.section_steps.specs.Section.{
-  on_table,
-  stateless,
-  begun,
-  cursor_at,
-  begun_by,
-  start,
-  ended_of,
-  found_of,
-  is_over,
-  limit_of,
-  fits,
-  field_step,
-  bytes_of,
-  stored_by,
-  line_in,
-  out_in,
-  line_of,
-  out_of,
-  length_of,
-  Ready,
-  LineReady,
-};
+ghost use Rattle.field_lines.specs.Line.{text_in, TextInside, field_read, live_of};
+ghost use Rattle.section_steps.specs.Section.{on_table, stateless, begun, cursor_at, start, decoded_of, found_of, line_told, is_over, limit_of, fits, field_step, bytes_of, stored_by, line_in, out_in, line_of, out_of, length_of, Ready, LineReady};
 
-use answers::{Refusal, Reply};
+use answers::Refusal;
 use arena::RING;
 use dynamic::Table;
-use entries::SLOTS;
 use field::ESTIMATED_OVERHEAD_BYTES;
-use field_lines::{FieldRead, Text};
-use header_prefix::PrefixRead;
-use vas::VirtualAddressSpace;
+use field_lines::{FieldAt, Text};
+use header_prefix::Prefix;
+use ring::Ring;
 
 // One decoded field: where its bytes start in the buffer, and how many its name and its value have.
 #[derive(Clone, Copy)]
@@ -49,6 +25,7 @@ pub struct Field {
 }
 
 // Where a reader stands: whether the prefix was read and what it gave, the next byte, and what was stored so far.
+// The flag stands beside the numbers, and no Option: a caller may come with any cursor, and `cursor_at` speaks of each.
 #[derive(Clone, Copy)]
 pub struct Cursor {
     pub started: bool,
@@ -61,36 +38,21 @@ pub struct Cursor {
 }
 
 // A section's answer: whether the required count was above 0, how many records and bytes were stored, and the size sum.
+// The numbers stand beside the reply, and not in its Ok: a refused section tells them too.
 #[derive(Clone, Copy)]
 pub struct Decoded {
-    pub reply: Reply,
+    pub reply: Result<(), Refusal>,
     pub dynamic: bool,
     pub count: usize,
     pub used: usize,
     pub size: usize,
 }
 
-// What one step finds: the end, with the answer; or a field, with its record and where to go on.
+// What one step finds: the end, with the reply and where the reader stands; or a field, with its record and where to go on.
 #[derive(Clone, Copy)]
-pub struct Line {
-    pub done: bool,
-    pub field: Field,
-    pub next: Cursor,
-    pub decoded: Decoded,
-}
-
-// A cursor past the prefix, or why there is none.
-#[derive(Clone, Copy)]
-pub enum Begun {
-    At(Cursor),
-    Refused(Refusal),
-}
-
-// The largest size sum of a section, if there is one.
-#[derive(Clone, Copy)]
-pub enum Limit {
-    None,
-    Most(usize),
+pub enum Line {
+    Ended(Result<(), Refusal>, Cursor),
+    Found(Field, Cursor),
 }
 
 // The largest size sum of the stateless reader.
@@ -117,114 +79,72 @@ pub fn begin() -> Cursor
     }
 }
 
-// The section ends here, with an answer.
-fn ended(reply: Reply, c: Cursor) -> Line
-    ensures { result ≡ ended_of reply c }
-{
-    Line {
-        done: true,
-        field: Field {
-            start: 0,
-            name: 0,
-            value: 0,
-        },
-        next: c,
-        decoded: Decoded {
+impl Cursor {
+    // The answer of a section that ends here.
+    pub fn decoded(self, reply: Result<(), Refusal>) -> Decoded
+        ensures { result ≡ decoded_of reply self }
+    {
+        Decoded {
             reply,
-            dynamic: c.dynamic,
-            count: c.count,
-            used: c.used,
-            size: c.size,
-        },
+            dynamic: self.dynamic,
+            count: self.count,
+            used: self.used,
+            size: self.size,
+        }
     }
 }
 
 // A field that is stored at the cursor; its line ends at a position.
 fn found(c: Cursor, name: usize, value: usize, next: usize) -> Line
     requires { (c.used + (name + value) < 2 ^ 64) × (c.count + 1 < 2 ^ 64) × (c.size + (name + value + overhead) < 2 ^ 64) }
-    ensures { result ≡ found_of c name value next }
+    ensures { line_told result ≡ found_of c name value next }
 {
-    Line {
-        done: false,
-        field: Field {
-            start: c.used,
-            name,
-            value,
-        },
-        next: Cursor {
-            started: c.started,
-            dynamic: c.dynamic,
-            base: c.base,
+    let field = Field {
+        start: c.used,
+        name,
+        value,
+    };
+    Line::Found(
+        field,
+        Cursor {
             at: next,
             used: c.used + (name + value),
             count: c.count + 1,
             size: c.size + (name + value + ESTIMATED_OVERHEAD_BYTES),
+            ..c
         },
-        decoded: Decoded {
-            reply: Reply::Done,
-            dynamic: false,
-            count: 0,
-            used: 0,
-            size: 0,
-        },
-    }
+    )
 }
 
 // Whether a number of bytes, two more numbers and an entry's overhead come to more than a maximum.
 fn is_past(most: usize, size: usize, name: usize, value: usize) -> bool
     ensures { result ≡ ltb most (size + (name + value + overhead)) }
 {
-    if most < size {
-        return true;
-    }
-    let left = most - size;
-    if left < ESTIMATED_OVERHEAD_BYTES {
-        return true;
-    }
-    let room = left - ESTIMATED_OVERHEAD_BYTES;
-    if room < name {
-        return true;
-    }
-    room - name < value
+    // The sum may be past a usize.
+    let sum = size as u128 + name as u128 + value as u128 + ESTIMATED_OVERHEAD_BYTES as u128;
+    (most as u128) < sum
 }
 
 // Whether the size sum is above the limit.
-fn is_over(limit: Limit, size: usize, name: usize, value: usize) -> bool
+fn is_over(limit: Option<usize>, size: usize, name: usize, value: usize) -> bool
     ensures { result ≡ is_over (limit_of limit) (size + (name + value + overhead)) }
 {
-    match limit {
-        Limit::None => false,
-        Limit::Most(most) => is_past(most, size, name, value),
-    }
+    limit.is_some_and(|most| is_past(most, size, name, value))
 }
 
 // Whether the next field and its bytes fit.
 fn has_room(room: usize, cap: usize, c: Cursor, name: usize, value: usize) -> bool
     ensures { result ≡ fits room cap c name value }
 {
-    if room <= c.count {
-        return false;
-    }
-    if cap < c.used {
-        return false;
-    }
-    let left = cap - c.used;
-    if left < name {
-        return false;
-    }
-    if left - name < value {
-        return false;
-    }
-    !is_past(LARGEST_SUM, c.size, name, value)
+    let end = c.used as u128 + name as u128 + value as u128;
+    c.count < room && end <= cap as u128 && !is_past(LARGEST_SUM, c.size, name, value)
 }
 
 fn text_len(text: Text) -> usize
     ensures { result ≡ length_of text }
 {
     match text {
-        Text::Input { start: _, len } => len,
-        Text::Fixed { start: _, len } => len,
-        Text::Stored { start: _, len } => len,
+        Text::Input { len, .. } | Text::Fixed { len, .. } | Text::Stored { len, .. } => len,
     }
 }
 
@@ -235,13 +155,13 @@ fn copy_text(s: &[u8], arena: &[u8], text: Text, out: &mut [u8], at: usize)
 {
     match text {
         Text::Input { start, len } => {
-            byte_writing::write(out, at, s, start, len);
+            byte_writing::write(out, at, s, start, len).unwrap();
         }
         Text::Fixed { start, len } => {
-            static_table::copy(out, at, start, len);
+            static_table::copy(out, at, start, len).unwrap();
         }
         Text::Stored { start, len } => {
-            arena::copy(arena, start, len, out, at);
+            arena::copy(arena, start, len, out, at).unwrap();
         }
     }
 }
@@ -259,7 +179,7 @@ fn copy_field(s: &[u8], arena: &[u8], name: Text, value: Text, out: &mut [u8], a
         } = value
         {
             if start + len == behind {
-                static_table::copy(out, at, start, len + more);
+                static_table::copy(out, at, start, len + more).unwrap();
                 return;
             }
         }
@@ -272,154 +192,123 @@ fn copy_field(s: &[u8], arena: &[u8], name: Text, value: Text, out: &mut [u8], a
 fn place(
     s: &[u8],
     arena: &[u8],
-    line: FieldRead,
-    limit: Limit,
+    line: Result<FieldAt, Refusal>,
+    limit: Option<usize>,
     room: usize,
     out: &mut [u8],
     c: Cursor,
 ) -> Line
     requires { LineReady s.now arena.now line }
-    ensures { (result ≡ field_step (limit_of limit) room (length out.old) c (field_read s.now arena.now line))
-        × (out.new ≡ stored_by c out.old result (bytes_of (field_read s.now arena.now line))) }
+    ensures { (line_told result ≡ field_step (limit_of limit) room (length out.old) c (field_read s.now arena.now line))
+        × (out.new ≡ stored_by c out.old (line_told result) (bytes_of (field_read s.now arena.now line))) }
 {
     match line {
-        FieldRead::Refused(why) => ended(Reply::Refused(why), c),
-        FieldRead::Field { name, value, next } => {
-            let n = text_len(name);
-            let v = text_len(value);
+        Err(why) => Line::Ended(Err(why), c),
+        Ok(field) => {
+            let n = text_len(field.name);
+            let v = text_len(field.value);
             if is_over(limit, c.size, n, v) {
-                return ended(Reply::Refused(Refusal::HeaderTooLong), c);
+                return Line::Ended(Err(Refusal::HeaderTooLong), c);
             }
             if !has_room(room, out.len(), c, n, v) {
-                return ended(Reply::Refused(Refusal::OutputFull), c);
+                return Line::Ended(Err(Refusal::OutputFull), c);
             }
-            copy_field(s, arena, name, value, out, c.used);
-            found(c, n, v, next)
+            copy_field(s, arena, field.name, field.value, out, c.used);
+            found(c, n, v, field.next)
         }
     }
 }
 
 // A cursor past a prefix.
-fn past_prefix(c: Cursor, prefix: PrefixRead) -> Begun
-    ensures { begun_by result ≡ and_then (prefix_read prefix) (λ p. done (begun c p)) }
+fn past_prefix(c: Cursor, prefix: Prefix) -> Cursor
+    ensures { result ≡ begun c prefix }
 {
-    match prefix {
-        PrefixRead::Refused(why) => Begun::Refused(why),
-        PrefixRead::Prefix {
-            required,
-            base,
-            next,
-        } => Begun::At(Cursor {
-            started: true,
-            dynamic: 0 < required,
-            base,
-            at: next,
-            used: c.used,
-            count: c.count,
-            size: c.size,
-        }),
+    Cursor {
+        started: true,
+        dynamic: 0 < prefix.required,
+        base: prefix.base,
+        at: prefix.next,
+        ..c
     }
 }
 
 // Where the next line of a section on a table stands; the record is tested once, before the prefix.
-pub fn begin_on(s: &[u8], arena: &[u8], table: Table, c: Cursor) -> Begun
-    ensures { begun_by result ≡ cursor_at (on_table table arena.now) s.now c }
+#[tactic(auto, unfolding(crate::specs::Section::cursor_at, crate::specs::Section::start_of))]
+pub fn begin_on(s: &[u8], arena: &[u8], table: &Table, c: Cursor) -> Result<Cursor, Refusal>
+    ensures { answered result ≡ cursor_at (on_table table.now arena.now) s.now c }
 {
     if arena.len() < RING {
-        return Begun::Refused(Refusal::BadCall);
+        return Err(Refusal::BadCall);
     }
     if c.started {
-        return Begun::At(c);
+        return Ok(c);
     }
-    let check = table.checked();
-    if !check.sound {
-        return Begun::Refused(Refusal::BadCall);
-    }
+    table.checked().ok_or(Refusal::BadCall)?;
     if table.active {
-        return Begun::Refused(Refusal::SectionOpen);
+        return Err(Refusal::SectionOpen);
     }
-    let prefix = header_prefix::read_prefix(s, 0, table.ring.inserted, table.ring.capacity);
-    past_prefix(c, prefix)
+    let prefix = header_prefix::read_prefix(s, 0, table.ring.inserted, table.ring.capacity)?;
+    Ok(past_prefix(c, prefix))
 }
 
-// The next line of a section on the three arrays of a ring, with what is live of it.
-pub fn line_on<'a>(
+// The next line of a section on the entries of a ring.
+pub fn line_on(s: &[u8], arena: &[u8], ring: &Ring, room: usize, out: &mut [u8], c: Cursor) -> Line
+    ensures { (line_told result ≡ line_in (live_of ring.now arena.now) arena.now s.now room (length out.old) c)
+        × (out.new ≡ out_in (live_of ring.now arena.now) s.now c out.old (line_told result)) }
+{
+    if arena.len() < RING {
+        return Line::Ended(Err(Refusal::BadCall), c);
+    }
+    if s.len() <= c.at {
+        return Line::Ended(Ok(()), c);
+    }
+    let line = field_lines::read_on(ring, c.base, s, c.at);
+    place(s, arena, line, None, room, out, c)
+}
+
+// One step of a section on a table.
+pub fn next_on(
     s: &[u8],
     arena: &[u8],
-    starts: &'a [u16; SLOTS],
-    names: &'a [u16; SLOTS],
-    values: &'a [u16; SLOTS],
-    live: VirtualAddressSpace,
+    table: &Table,
     room: usize,
     out: &mut [u8],
     c: Cursor,
 ) -> Line
-    ensures { (result ≡ line_in (live_in starts.now names.now values.now live arena.now) arena.now s.now room (length out.old) c)
-        × (out.new ≡ out_in (live_in starts.now names.now values.now live arena.now) s.now c out.old result) }
+    ensures { (line_told result ≡ line_of (on_table table.now arena.now) s.now room (length out.old) c)
+        × (out.new ≡ out_of (on_table table.now arena.now) s.now c out.old (line_told result)) }
 {
-    if arena.len() < RING {
-        return ended(Reply::Refused(Refusal::BadCall), c);
-    }
-    if s.len() <= c.at {
-        return ended(Reply::Done, c);
-    }
-    let line = field_lines::read_on(starts, names, values, live, c.base, s, c.at);
-    place(s, arena, line, Limit::None, room, out, c)
-}
-
-// One step of a section on a table.
-pub fn next_on(s: &[u8], arena: &[u8], table: Table, room: usize, out: &mut [u8], c: Cursor) -> Line
-    ensures { (result ≡ line_of (on_table table arena.now) s.now room (length out.old) c)
-        × (out.new ≡ out_of (on_table table arena.now) s.now c out.old result) }
-{
-    let from = begin_on(s, arena, table, c);
-    match from {
-        Begun::Refused(why) => ended(Reply::Refused(why), c),
-        Begun::At(d) => {
-            let live = VirtualAddressSpace {
-                inserted: table.ring.inserted,
-                dropped: table.ring.dropped,
-            };
-            line_on(
-                s,
-                arena,
-                &table.ring.starts,
-                &table.ring.names,
-                &table.ring.values,
-                live,
-                room,
-                out,
-                d,
-            )
-        }
+    match begin_on(s, arena, table, c) {
+        Err(why) => Line::Ended(Err(why), c),
+        Ok(d) => line_on(s, arena, &table.ring, room, out, d),
     }
 }
 
 // Where the next line of a section without a table stands.
-fn begin_stateless(s: &[u8], c: Cursor) -> Begun
-    ensures { (most : ℕ) → begun_by result ≡ cursor_at (stateless most) s.now c }
+#[tactic(auto, unfolding(crate::specs::Section::cursor_at, crate::specs::Section::start_of))]
+fn begin_stateless(s: &[u8], c: Cursor) -> Result<Cursor, Refusal>
+    ensures { (most : ℕ) → answered result ≡ cursor_at (stateless most) s.now c }
 {
     if c.started {
-        return Begun::At(c);
+        return Ok(c);
     }
-    let prefix = header_prefix::read_prefix(s, 0, 0, 0);
-    past_prefix(c, prefix)
+    let prefix = header_prefix::read_prefix(s, 0, 0, 0)?;
+    Ok(past_prefix(c, prefix))
 }
 
 // One step of a section without a table.
 pub fn next_stateless(s: &[u8], max: MaxSize, room: usize, out: &mut [u8], c: Cursor) -> Line
-    ensures { (result ≡ line_of (stateless max.bytes) s.now room (length out.old) c)
-        × (out.new ≡ out_of (stateless max.bytes) s.now c out.old result) }
+    ensures { (line_told result ≡ line_of (stateless max.bytes) s.now room (length out.old) c)
+        × (out.new ≡ out_of (stateless max.bytes) s.now c out.old (line_told result)) }
 {
-    let from = begin_stateless(s, c);
-    match from {
-        Begun::Refused(why) => ended(Reply::Refused(why), c),
-        Begun::At(d) => {
+    match begin_stateless(s, c) {
+        Err(why) => Line::Ended(Err(why), c),
+        Ok(d) => {
             if s.len() <= d.at {
-                return ended(Reply::Done, d);
+                return Line::Ended(Ok(()), d);
             }
             let line = field_lines::read_static(s, d.at);
-            place(s, &[], line, Limit::Most(max.bytes), room, out, d)
+            place(s, &[], line, Some(max.bytes), room, out, d)
         }
     }
 }

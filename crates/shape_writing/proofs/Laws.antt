@@ -8,12 +8,11 @@ use lib.Dec.{ltb}
 use lib.ListN.{length, length-append}
 use lib.Seq.{sets, length-sets}
 use borrow.Author.Tests.{ltb-true, ltb-false}
+use Rattle.std.specs.Prelude.{Result, Ok, Err}
 use Rattle.answers.specs.Answer.{Answer, done, refused, and_then}
 use Rattle.answers.specs.Write.{Writes}
 use Rattle.answers.specs.declared.Refusal.{Refusal}
 use Rattle.answers.specs.declared.Refusal.TheVariants.{OutputFull}
-use Rattle.answers.specs.declared.Written.{Written}
-use Rattle.answers.specs.declared.Written.TheVariants.{Refused}
 use Rattle.answers.proofs.Write.{writes_refused, writes_full, writes_next, sets_append}
 use Rattle.prefix_int.specs.Integer.{good_call, int_bytes, size_of}
 use Rattle.int_writing.proofs.Writers.{sized, unsized, writes_stored}
@@ -49,7 +48,7 @@ value_bytes t = plain value_width 0 t
 -- a is the first part, t the value
 module _ (a : Answer (List ℕ)) (t l : List ℕ) (at : ℕ) where
   pub both_refused : (r : Refusal) → and_then a (λ bytes. done (length bytes)) ≡ refused r
-      → Writes (joined a (text_bytes value_width 0 t)) l at (Refused r) l
+      → Writes (joined a (text_bytes value_width 0 t)) l at (Err r) l
   both_refused r h = writes_refused _ l at r (rw (unsized a r h))
 
   module _ (n : ℕ) (size : and_then a (λ bytes. done (length bytes)) ≡ done n) where
@@ -65,11 +64,16 @@ module _ (a : Answer (List ℕ)) (t l : List ℕ) (at : ℕ) where
           length-append s.bytes (value_bytes t) ∙ ap (λ (k : ℕ). k + length (value_bytes t)) s.many,
         )
 
-    pub both_full : length l < at + (n + length (value_bytes t)) → Writes (joined a (text_bytes value_width 0 t)) l at (Refused OutputFull) l
+    pub both_full : length l < at + (n + length (value_bytes t)) → Writes (joined a (text_bytes value_width 0 t)) l at (Err OutputFull) l
     both_full long = writes_full _ l at (two.0 ++ value_bytes t) two.3 (omega (arith, two.4))
 
+    -- where the first write ends
+    pub first_ends : (p : Result ℕ Refusal) (m : List ℕ) → at + (n + length (value_bytes t)) ≤ length l → Writes a l at p m → p ≡ Ok (at + n)
+    first_ends p m room first =
+        (writes_stored a two.0 l at p m two.1 (omega (arith, two.2)) first).0 ∙ ap (λ (k : ℕ). Ok (at + k)) two.2
+
     -- p and m: what the first write answers and leaves; q and o: the second
-    pub both_next : (p q : Written) (m o : List ℕ) → at + (n + length (value_bytes t)) ≤ length l → Writes a l at p m
+    pub both_next : (p q : Result ℕ Refusal) (m o : List ℕ) → at + (n + length (value_bytes t)) ≤ length l → Writes a l at p m
         → Writes (text_bytes value_width 0 t) m (at + n) q o → Writes (joined a (text_bytes value_width 0 t)) l at q o
     both_next p q m o room first second =
         let x = two.0 in
@@ -80,5 +84,5 @@ module _ (a : Answer (List ℕ)) (t l : List ℕ) (at : ℕ) where
         let e : at + n + length y ≡ at + length (x ++ y) = omega (arith, two.4) in
         let stores : o ≡ sets l at (x ++ y) =
         s.1 ∙ ap₂ (λ (k : List ℕ) (i : ℕ). sets k i y) f.1 (ap (◌+◌ at) (sym two.2)) ∙ sets_append x y l at in
-        subst (λ (r : Written). Writes (joined a (text_bytes value_width 0 t)) l at r o) (sym s.0)
+        subst (λ (r : Result ℕ Refusal). Writes (joined a (text_bytes value_width 0 t)) l at r o) (sym s.0)
         (writes_next _ l at (x ++ y) two.3 _ o (omega (arith, two.4)) e stores)

@@ -2,24 +2,23 @@
 #![tactic(auto)]
 
 ghost use Rattle.std.specs.Prelude.{◌≡◌, ◌+◌, leb, length};
-ghost use Rattle.answers.specs.Answer.{and_then, done};
+ghost use Rattle.answers.specs.Answer.{answered, and_then, done};
 ghost use Rattle.answers.specs.Write.{Writes};
-ghost use Rattle.prefix_int.specs.Integer.{int_bytes, int_size};
+ghost use Rattle.prefix_int.specs.Integer.{int_bytes};
 ghost use Rattle.text_writing.specs.Plain.{plain};
 ghost use Rattle.shape_writing.specs.Joined.{value_width, int_text_bytes, texts_bytes};
 
-use answers::{Refusal, Written};
-use prefix_int::IntSize;
+use answers::Refusal;
 
 // The bits of a value's length: H and seven more.
 pub const VALUE_WIDTH: u32 = 7;
 
 // How many bytes an integer with its flags takes.
-fn int_size(width: u32, flags: u8, index: u64) -> IntSize
-    ensures { int_size result ≡ and_then (int_bytes width flags index) (λ bytes. done (length bytes)) }
+fn int_size(width: u32, flags: u8, index: u64) -> Result<usize, Refusal>
+    ensures { answered result ≡ and_then (int_bytes width flags index) (λ bytes. done (length bytes)) }
 {
     if !prefix_int::call_ok(width, flags) {
-        return IntSize::Refused(Refusal::BadCall);
+        return Err(Refusal::BadCall);
     }
     prefix_int::size(index, width)
 }
@@ -28,10 +27,7 @@ fn int_size(width: u32, flags: u8, index: u64) -> IntSize
 fn value_size(value: &[u8]) -> usize
     ensures { result ≡ length (plain value_width 0 value.now) }
 {
-    let IntSize::Bytes(n) = text_writing::size(value.len(), VALUE_WIDTH, 0) else {
-        return 0;
-    };
-    n
+    text_writing::size(value.len(), VALUE_WIDTH, 0).unwrap()
 }
 
 // Whether two parts fit into len bytes from a position on.
@@ -59,20 +55,15 @@ pub fn write_int_text(
     flags: u8,
     index: u64,
     value: &[u8],
-) -> Written
+) -> Result<usize, Refusal>
     ensures { Writes (int_text_bytes width flags index value.now) buf.old at result buf.new }
 {
-    let sized = int_size(width, flags, index);
-    match sized {
-        IntSize::Bytes(index_size) => {
-            if !both_fit(buf.len(), at, index_size, value_size(value)) {
-                return Written::Refused(Refusal::OutputFull);
-            }
-            prefix_int::write(buf, at, width, flags, index);
-            text_writing::write(buf, at + index_size, VALUE_WIDTH, 0, value)
-        }
-        IntSize::Refused(r) => Written::Refused(r),
+    let index_size = int_size(width, flags, index)?;
+    if !both_fit(buf.len(), at, index_size, value_size(value)) {
+        return Err(Refusal::OutputFull);
     }
+    let between = prefix_int::write(buf, at, width, flags, index).unwrap();
+    text_writing::write(buf, between, VALUE_WIDTH, 0, value)
 }
 
 // A name and a value, both or nothing.
@@ -83,18 +74,13 @@ pub fn write_texts(
     flags: u8,
     name: &[u8],
     value: &[u8],
-) -> Written
+) -> Result<usize, Refusal>
     ensures { Writes (texts_bytes width flags name.now value.now) buf.old at result buf.new }
 {
-    let sized = text_writing::size(name.len(), width, flags);
-    match sized {
-        IntSize::Bytes(name_size) => {
-            if !both_fit(buf.len(), at, name_size, value_size(value)) {
-                return Written::Refused(Refusal::OutputFull);
-            }
-            text_writing::write(buf, at, width, flags, name);
-            text_writing::write(buf, at + name_size, VALUE_WIDTH, 0, value)
-        }
-        IntSize::Refused(r) => Written::Refused(r),
+    let name_size = text_writing::size(name.len(), width, flags)?;
+    if !both_fit(buf.len(), at, name_size, value_size(value)) {
+        return Err(Refusal::OutputFull);
     }
+    let between = text_writing::write(buf, at, width, flags, name).unwrap();
+    text_writing::write(buf, between, VALUE_WIDTH, 0, value)
 }

@@ -6,10 +6,13 @@ use native.Mathlib.Omega.{arith}
 use lib.ListN.{length, get_or}
 use Rattle.answers.specs.Answer.{Answer, done, refused, and_then}
 use Rattle.answers.proofs.Then.{then_done}
-use Rattle.prefix_int.specs.Integer.{Integer}
-use Rattle.prefix_string.specs.Text.{Text, text_at}
+use Rattle.prefix_int.specs.declared.Integer.{Integer}
+use Rattle.prefix_string.specs.Text.{text_at}
+use Rattle.prefix_string.specs.declared.Text.{Text}
 use Rattle.prefix_string.proofs.Bounds.{found_text}
-use Rattle.shapes.specs.Shapes.{value_width, IntText, int_text, text_after, TwoTexts, two_texts, texts_at}
+use Rattle.shapes.specs.Shapes.{value_width, int_text, text_after, two_texts, texts_at}
+use Rattle.shapes.specs.declared.TwoTexts.{TwoTexts}
+use Rattle.shapes.specs.declared.IntText.{IntText}
 
 -- an integer and a value that were read
 pub record FoundIntText (s : List ℕ) (int : Answer Integer) (r : IntText) : Type 0 where

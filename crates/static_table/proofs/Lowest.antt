@@ -1,40 +1,16 @@
--- A search from index 0 up gives the lowest index of a field that passes a test: a turn of the loop, and what the answer says. Assumes nothing.
+-- What the answer of a search says: the lowest index of a field that passes a test. Assumes nothing.
 use mathlib.Core.Path.{◌≡◌, refl, sym, ap₂}
 use mathlib.Core.Bool.{Bool, true, false, cond}
 use mathlib.Core.List.{List, [], ◌∷◌}
 use mathlib.Core.Option.{Option, some, none}
-use Prim.Native.Nat.{ℕ, zero, suc, ◌+◌, ◌≤◌, ◌<◌}
-use native.Mathlib.Numerals.{add-one}
+use Prim.Native.Nat.{ℕ, zero, suc, ◌+◌, ◌<◌}
 use native.Mathlib.Omega.{arith}
-use lib.ListN.{length, get_or, drop, drop_of_length-le}
-use lib.Seq.{drop-cons}
+use lib.ListN.{length, get_or}
 use Rattle.field.specs.Field.{Field, same, equal}
 use Rattle.field.proofs.Same.{same_refl, same_true}
 use Rattle.static_table.specs.AppendixA.{appendix_a}
 use Rattle.static_table.specs.Static.{no_field, lowest, lowest_field, lowest_name}
 use Rattle.static_table.proofs.Table.{entries, both}
-
--- ---- a turn of the loop: entry i fails the test, or passes it; or there are no more
-
-front : (i : ℕ) → i < 99 → drop i appendix_a ≡ get_or appendix_a i no_field ∷ drop (i + 1) appendix_a
-front i h =
-    let k : i < length appendix_a = omega (arith, entries) in
-    rw (drop-cons appendix_a i no_field k, add-one)
-
-module _ (test : Field → Bool) (i : ℕ) where
-  pub failed : i < 99 → test (get_or appendix_a i no_field) ≡ false
-      → lowest test (i + 1) (drop (i + 1) appendix_a) ≡ lowest test i (drop i appendix_a)
-  failed h e = rw (front i h, e, add-one)
-
-  pub passed : i < 99 → test (get_or appendix_a i no_field) ≡ true → some i ≡ lowest test i (drop i appendix_a)
-  passed h e = rw (front i h, e)
-
-  pub over : 99 ≤ i → none ≡ lowest test i (drop i appendix_a)
-  over h =
-      let e : drop i appendix_a ≡ [] = drop_of_length-le appendix_a {i = i} (omega (arith, entries)) in
-      rw e
-
--- ---- what the answer says
 
 -- an index below 99, of an entry with the property, and no lower entry has it
 pub record Lowest (P : Field → Type 0) (i : ℕ) : Type 0 where

@@ -2,19 +2,23 @@
 use mathlib.Core.Path.{◌≡◌, refl, sym, ap, ◌∙◌}
 use mathlib.Core.Bool.{Bool, true, false, ◌&&◌, cond}
 use mathlib.Core.List.{List, [], ◌∷◌, ◌++◌}
-use Prim.Native.Nat.{ℕ, zero, suc, ◌+◌, ◌≤◌, ◌<◌}
+use Prim.Native.Nat.{ℕ, zero, suc, ◌+◌, ◌-◌, ◌≤◌, ◌<◌}
 use native.Mathlib.Omega.{arith}
-use lib.Dec.{ltb, leb}
+use lib.Dec.{ltb, leb, eqb}
 use lib.ListN.{length, get_or, take, drop, length-append, get_or-map}
 use lib.Seq.{drop-append-add, drop-drop, drop_at, take_at}
 use borrow.Author.Tests.{ltb-true, leb-true, lt-ltb, le-ltb}
 use Rattle.byte_writing.proofs.Stretch.{cut}
-use Rattle.field.specs.Field.{Field}
+use Rattle.std.specs.Cmp.Lexicographic.{pointwise}
+use Rattle.field.specs.Field.{Field, same}
+use Rattle.field.proofs.Same.{same_pointwise}
 use Rattle.answers.specs.Answer.{done, refused}
 use Rattle.answers.specs.declared.Refusal.TheVariants.{InvalidStaticIndex}
 use Rattle.static_table.specs.AppendixA.{appendix_a}
-use Rattle.static_table.specs.Arrays.{starts_from, name_lengths, value_lengths, Lent}
-use Rattle.static_table.specs.Static.{laid, no_field, Place, place_of, entry_at}
+use Rattle.static_table.specs.Arrays.{starts_from, name_lengths, value_lengths}
+use Rattle.static_table.specs.Static.{laid, no_field, place_of, entry_at}
+use Rattle.static_table.specs.declared.Arrays.{Arrays}
+use Rattle.static_table.specs.declared.Place.{Place}
 
 -- ---- any list of fields
 
@@ -97,41 +101,55 @@ all_short : every short appendix_a ≡ true
 unfolding appendix_a every short
 all_short = refl
 
+-- what `==` says of a text and a stretch
+pub same_between : (text b : List ℕ) (start len : ℕ) → pointwise eqb text (take (start + len - start) (drop start b)) ≡ same text (cut b start len)
+same_between text b start len = let e : start + len - start ≡ len = omega arith in rw e (same_pointwise text (cut b start len))
+
 -- ---- what the arrays give
 
-module _ {b s n : List ℕ} (lent : Lent b s n) (i x y : ℕ) (low : i < 99) (ex : x ≡ get_or s i 0) (ey : y ≡ get_or n i 0) where
+module _ (a : Arrays) (i x y : ℕ) (low : i < 99) (ex : x ≡ get_or a.starts i 0) (ey : y ≡ get_or a.names i 0) where
   within : i < length appendix_a
   within = omega (arith, entries)
 
   start_is : x ≡ (place_of appendix_a i).start
-  start_is = ex ∙ rw lent.starts (starts_at appendix_a 0 i within ∙ omega arith)
+  start_is = ex ∙ rw a.starts_laid (starts_at appendix_a 0 i within ∙ omega arith)
 
   name_is : y ≡ (place_of appendix_a i).name
-  name_is = ey ∙ rw lent.names (names_at appendix_a i)
+  name_is = ey ∙ rw a.names_laid (names_at appendix_a i)
 
-  pub name_inside : x + y ≤ length b
-  name_inside = omega (arith, start_is, name_is, ends_inside appendix_a i within, ap length lent.bytes)
+  pub name_inside : x + y ≤ length a.bytes
+  name_inside = omega (arith, start_is, name_is, ends_inside appendix_a i within, ap length a.bytes_laid)
 
-  pub name_cut : cut b x y ≡ (get_or appendix_a i no_field).name
-  name_cut = rw (lent.bytes, start_is, name_is) (name_stands appendix_a i within)
+  pub name_cut : cut a.bytes x y ≡ (get_or appendix_a i no_field).name
+  name_cut = rw (a.bytes_laid, start_is, name_is) (name_stands appendix_a i within)
 
-  module _ {v : List ℕ} (values : v ≡ value_lengths appendix_a) (z : ℕ) (ez : z ≡ get_or v i 0) where
+  module _ (z : ℕ) (ez : z ≡ get_or a.values i 0) where
     value_is : z ≡ (place_of appendix_a i).value
-    value_is = ez ∙ rw values (values_at appendix_a i)
+    value_is = ez ∙ rw a.values_laid (values_at appendix_a i)
 
-    pub value_inside : x + y + z ≤ length b
-    value_inside = omega (arith, start_is, name_is, value_is, ends_inside appendix_a i within, ap length lent.bytes)
+    pub value_inside : x + y + z ≤ length a.bytes
+    value_inside = omega (arith, start_is, name_is, value_is, ends_inside appendix_a i within, ap length a.bytes_laid)
 
-    pub value_cut : cut b (x + y) z ≡ (get_or appendix_a i no_field).value
-    value_cut = rw (lent.bytes, start_is, name_is, value_is) (value_stands appendix_a i within)
+    pub value_cut : cut a.bytes (x + y) z ≡ (get_or appendix_a i no_field).value
+    value_cut = rw (a.bytes_laid, start_is, name_is, value_is) (value_stands appendix_a i within)
 
     pub entry_done : done (record { start = x; name = y; value = z }) ≡ entry_at i
     unfolding entry_at
     entry_done = rw (lt-ltb _ _ within, start_is, name_is, value_is)
 
--- the arrays of the code are such: with Appendix A open, each is computed and compared whole
-pub arrays : Lent (laid appendix_a) (starts_from 0 appendix_a) (name_lengths appendix_a)
-arrays = record { bytes = refl; starts = refl; names = refl }
+-- the arrays of Appendix A are such
+abbrev pub arrays : Arrays
+arrays =
+    record {
+      bytes = laid appendix_a;
+      starts = starts_from 0 appendix_a;
+      names = name_lengths appendix_a;
+      values = value_lengths appendix_a;
+      bytes_laid = refl;
+      starts_laid = refl;
+      names_laid = refl;
+      values_laid = refl;
+    }
 
 pub entry_refused : (i : ℕ) → 99 ≤ i → refused InvalidStaticIndex ≡ entry_at i
 unfolding entry_at

@@ -1,8 +1,6 @@
 -- What the constant arrays hold, each read off a list of fields: the bytes are `laid`, and these are the numbers.
-use Rattle.std.specs.Prelude.{◌≡◌, List, [], ◌∷◌, map, ℕ, ◌+◌, length}
+use Rattle.std.specs.Prelude.{List, [], ◌∷◌, map, ℕ, ◌+◌, length}
 use Rattle.field.specs.Field.{Field}
-use Rattle.static_table.specs.AppendixA.{appendix_a}
-use Rattle.static_table.specs.Static.{laid}
 
 -- where each field's bytes start, if the first one's start at s
 abbrev pub starts_from : ℕ → List Field → List ℕ
@@ -14,9 +12,3 @@ name_lengths l = map (λ f. length f.name) l
 
 abbrev pub value_lengths : List Field → List ℕ
 value_lengths l = map (λ f. length f.value) l
-
--- the arrays that a search for a name is lent
-pub record Lent (b s n : List ℕ) : Type 0 where
-  pub bytes : b ≡ laid appendix_a
-  pub starts : s ≡ starts_from 0 appendix_a
-  pub names : n ≡ name_lengths appendix_a

@@ -2,30 +2,21 @@
 #![tactic(auto)]
 
 ghost use Rattle.std.specs.Prelude.{◌≡◌, ◌+◌, ◌≤◌, ◌<◌, length, get_or, take, drop};
+ghost use Rattle.answers.specs.Answer.{answered};
 ghost use Rattle.answers.specs.Write.{Writes};
 ghost use Rattle.field.specs.Field.{same, equal};
 ghost use Rattle.static_table.specs.AppendixA.{appendix_a};
-ghost use Rattle.static_table.specs.Arrays.{Lent, starts_from, name_lengths, value_lengths};
-ghost use Rattle.static_table.specs.Static.{laid, no_field, got, found, entry_at, lowest_field, lowest_name, cut_of};
+ghost use Rattle.static_table.specs.Arrays.{starts_from, name_lengths, value_lengths};
+ghost use Rattle.static_table.specs.Static.{laid, no_field, found, entry_at, lowest_field, lowest_name, cut_of};
 
-use answers::{Refusal, Written};
+use answers::Refusal;
 
 // Where an entry's bytes start, and how many its name and its value have: the value's follow the name's.
 #[derive(Clone, Copy)]
-pub enum StaticGot {
-    Entry {
-        start: usize,
-        name: usize,
-        value: usize,
-    },
-    Refused(Refusal),
-}
-
-// The index that a search gives.
-#[derive(Clone, Copy)]
-pub enum StaticFound {
-    At(usize),
-    Nothing,
+pub struct Place {
+    pub start: usize,
+    pub name: usize,
+    pub value: usize,
 }
 
 const ENTRIES: usize = 99;
@@ -160,182 +151,102 @@ const VALUES: [u8; ENTRIES] = [
     1, 0, 0, 0, 0, 8, 0, 1, 1, 0, 0, 4, 10,
 ];
 
-// Each array is made in one place, and handed on as a value.
-fn bytes() -> [u8; SIZE]
-    ensures { result ≡ laid appendix_a }
-{
-    BYTES
+// The constant arrays as values: each use of a constant one makes it anew, byte by byte, so a search makes them once.
+#[derive(Drop)]
+struct Arrays {
+    bytes: [u8; SIZE],
+    starts: [u16; ENTRIES],
+    names: [u8; ENTRIES],
+    values: [u8; ENTRIES],
+    ghost bytes_laid: { bytes ≡ laid appendix_a },
+    ghost starts_laid: { starts ≡ starts_from 0 appendix_a },
+    ghost names_laid: { names ≡ name_lengths appendix_a },
+    ghost values_laid: { values ≡ value_lengths appendix_a },
 }
 
-fn starts() -> [u16; ENTRIES]
-    ensures { result ≡ starts_from 0 appendix_a }
-{
-    STARTS
-}
+impl Arrays {
+    fn new() -> Arrays {
+        Arrays {
+            bytes: BYTES,
+            starts: STARTS,
+            names: NAMES,
+            values: VALUES,
+        }
+    }
 
-fn names() -> [u8; ENTRIES]
-    ensures { result ≡ name_lengths appendix_a }
-{
-    NAMES
-}
+    // Whether an entry has that name.
+    fn has_name(&self, i: usize, name: &[u8]) -> bool
+        requires { i < 99 }
+        ensures { result ≡ same name.now (get_or appendix_a i no_field).name }
+    {
+        let start = usize::from(self.starts[i]);
+        let len = usize::from(self.names[i]);
+        let text = &self.bytes[start..start + len];
+        name == text
+    }
 
-fn values() -> [u8; ENTRIES]
-    ensures { result ≡ value_lengths appendix_a }
-{
-    VALUES
-}
-
-// A number of the arrays as a usize.
-fn wide8(x: u8) -> usize
-    ensures { result ≡ x }
-{
-    x as usize
-}
-
-fn wide16(x: u16) -> usize
-    ensures { result ≡ x }
-{
-    x as usize
+    // Whether an entry has that name and that value.
+    fn has_field(&self, i: usize, name: &[u8], value: &[u8]) -> bool
+        requires { i < 99 }
+        ensures { result ≡ equal (record { name = name.entry.now; value = value.now }) (get_or appendix_a i no_field) }
+    {
+        if !self.has_name(i, name) {
+            return false;
+        }
+        let start = usize::from(self.starts[i]) + usize::from(self.names[i]);
+        let len = usize::from(self.values[i]);
+        let text = &self.bytes[start..start + len];
+        value == text
+    }
 }
 
 // The entry at an index.
-pub fn get(index: u64) -> StaticGot
-    ensures { got result ≡ entry_at index }
+pub fn get(index: u64) -> Result<Place, Refusal>
+    ensures { answered result ≡ entry_at index }
 {
     if ENTRIES as u64 <= index {
-        return StaticGot::Refused(Refusal::InvalidStaticIndex);
+        return Err(Refusal::InvalidStaticIndex);
     }
     let i = index as usize;
-    StaticGot::Entry {
-        start: wide16(STARTS[i]),
-        name: wide8(NAMES[i]),
-        value: wide8(VALUES[i]),
-    }
-}
-
-// Whether a text is the len bytes from start on: lengths first, so that a miss is cheap.
-fn text_is(bytes: &[u8], start: usize, len: usize, text: &[u8]) -> bool
-    requires { start + len ≤ length bytes.now }
-    ensures { result ≡ same text.now (take len (drop start bytes.now)) }
-{
-    if text.len() != len {
-        return false;
-    }
-    let mut i = 0;
-    while i < len {
-        if text[i] != bytes[start + i] {
-            return false;
-        }
-        i += 1;
-    }
-    true
-}
-
-// Whether an entry has that name. The arrays are lent: each use of a constant one makes it anew, byte by byte.
-fn name_is(
-    bytes: &[u8],
-    starts: &[u16; ENTRIES],
-    names: &[u8; ENTRIES],
-    i: usize,
-    name: &[u8],
-) -> bool
-    requires { (i < 99) × Lent bytes.now starts.now names.now }
-    ensures { result ≡ same name.now (get_or appendix_a i no_field).name }
-{
-    text_is(bytes, wide16(starts[i]), wide8(names[i]), name)
-}
-
-// Whether an entry has that name and that value.
-fn field_is(
-    bytes: &[u8],
-    starts: &[u16; ENTRIES],
-    names: &[u8; ENTRIES],
-    values: &[u8; ENTRIES],
-    i: usize,
-    name: &[u8],
-    value: &[u8],
-) -> bool
-    requires { (i < 99) × Lent bytes.now starts.now names.now × (values.now ≡ value_lengths appendix_a) }
-    ensures { result ≡ equal (record { name = name.entry.now; value = value.now }) (get_or appendix_a i no_field) }
-{
-    if !name_is(bytes, starts, names, i, name) {
-        return false;
-    }
-    text_is(
-        bytes,
-        wide16(starts[i]) + wide8(names[i]),
-        wide8(values[i]),
-        value,
-    )
-}
-
-// The lowest index of a field, over the lent arrays.
-fn search_field(
-    bytes: &[u8],
-    starts: &[u16; ENTRIES],
-    names: &[u8; ENTRIES],
-    values: &[u8; ENTRIES],
-    name: &[u8],
-    value: &[u8],
-) -> StaticFound
-    requires { Lent bytes.now starts.now names.now × (values.now ≡ value_lengths appendix_a) }
-    ensures { found result ≡ lowest_field name.now value.now }
-{
-    let mut index = 0;
-    while index < ENTRIES {
-        if field_is(bytes, starts, names, values, index, name, value) {
-            return StaticFound::At(index);
-        }
-        index += 1;
-    }
-    StaticFound::Nothing
+    Ok(Place {
+        start: usize::from(STARTS[i]),
+        name: usize::from(NAMES[i]),
+        value: usize::from(VALUES[i]),
+    })
 }
 
 // The lowest index of a field.
-pub fn find(name: &[u8], value: &[u8]) -> StaticFound
+#[tactic(auto, unfolding(crate::specs::Static::lowest_field))]
+pub fn find(name: &[u8], value: &[u8]) -> Option<usize>
     ensures { found result ≡ lowest_field name.now value.now }
 {
-    let b = bytes();
-    let s = starts();
-    let n = names();
-    let v = values();
-    search_field(&b, &s, &n, &v, name, value)
-}
-
-// The lowest index of a name, over the lent arrays.
-fn search_name(
-    bytes: &[u8],
-    starts: &[u16; ENTRIES],
-    names: &[u8; ENTRIES],
-    name: &[u8],
-) -> StaticFound
-    requires { Lent bytes.now starts.now names.now }
-    ensures { found result ≡ lowest_name name.now }
-{
-    let mut i = 0;
-    while i < ENTRIES {
-        if name_is(bytes, starts, names, i, name) {
-            return StaticFound::At(i);
+    let arrays = Arrays::new();
+    for index in 0..ENTRIES {
+        if arrays.has_field(index, name, value) {
+            return Some(index);
         }
-        i += 1;
     }
-    StaticFound::Nothing
+    None
 }
 
 // The lowest index of a name.
-pub fn find_name(name: &[u8]) -> StaticFound
+#[tactic(auto, unfolding(crate::specs::Static::lowest_name))]
+pub fn find_name(name: &[u8]) -> Option<usize>
     ensures { found result ≡ lowest_name name.now }
 {
-    let b = bytes();
-    let s = starts();
-    let n = names();
-    search_name(&b, &s, &n, name)
+    let arrays = Arrays::new();
+    for index in 0..ENTRIES {
+        if arrays.has_name(index, name) {
+            return Some(index);
+        }
+    }
+    None
 }
 
 // Bytes of the table, written to a buffer: len of them from start on.
-pub fn copy(buf: &mut [u8], at: usize, start: usize, len: usize) -> Written
+pub fn copy(buf: &mut [u8], at: usize, start: usize, len: usize) -> Result<usize, Refusal>
     ensures { Writes (cut_of start len) buf.old at result buf.new }
 {
-    let b = bytes();
-    byte_writing::write(buf, at, &b, start, len)
+    let bytes = BYTES;
+    byte_writing::write(buf, at, &bytes, start, len)
 }

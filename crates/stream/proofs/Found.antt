@@ -14,12 +14,16 @@ use Rattle.forms.specs.declared.EncoderInstruction.TheVariants.{InsertWithNameRe
 use Rattle.forms.specs.declared.Kind.{Kind}
 use Rattle.forms.specs.declared.Kind.TheVariants.{Encoder}
 use Rattle.forms.proofs.Every.{width_low, width_high}
-use Rattle.prefix_int.specs.Integer.{Integer, int_at}
+use Rattle.prefix_int.specs.Integer.{int_at}
+use Rattle.prefix_int.specs.declared.Integer.{Integer}
 use Rattle.prefix_int.proofs.Bounds.{found}
 use Rattle.prefix_int.proofs.Reading.{int_end}
 use Rattle.shapes.specs.Shapes.{text_after, texts_at}
 use Rattle.shapes.proofs.Bounds.{found_int_text, found_texts}
-use Rattle.stream.specs.Instructions.{kind_int, past_limit, OneInteger, within_limit, integer_at, NameRef, name_ref, name_ref_at, Literal, literal, literal_at}
+use Rattle.stream.specs.Instructions.{kind_int, past_limit, within_limit, integer_at, name_ref, name_ref_at, literal, literal_at}
+use Rattle.stream.specs.declared.Literal.{Literal}
+use Rattle.stream.specs.declared.NameRef.{NameRef}
+use Rattle.stream.specs.declared.OneInteger.{OneInteger}
 
 -- a cut answer that has a value is that value's
 cut_some : {A : Type 0} (x : Answer A) (a : A) → cut_short x ≡ done (some a) → x ≡ done a

@@ -9,7 +9,8 @@ use Rattle.answers.specs.Answer.{Answer, done, refused, answer_number, and_then}
 use Rattle.answers.specs.declared.Refusal.TheVariants.{InvalidPrefix}
 use Rattle.forms.specs.Forms.{form_of, has_form}
 use Rattle.forms.specs.declared.Kind.{Kind}
-use Rattle.prefix_int.specs.Integer.{Integer, int_at}
+use Rattle.prefix_int.specs.Integer.{int_at}
+use Rattle.prefix_int.specs.declared.Integer.{Integer}
 use Rattle.prefix_int.proofs.Rows.{int_not_26}
 use Rattle.stream.specs.Instructions.{kind_int}
 

@@ -19,10 +19,13 @@ use Rattle.forms.specs.declared.EncoderInstruction.{EncoderInstruction}
 use Rattle.forms.specs.declared.EncoderInstruction.TheVariants.{InsertWithNameRef, InsertWithoutNameRef}
 use Rattle.forms.specs.declared.Kind.{Kind}
 use Rattle.forms.specs.declared.Kind.TheVariants.{Encoder, Decoder}
-use Rattle.prefix_int.specs.Integer.{Integer, int_at}
+use Rattle.prefix_int.specs.Integer.{int_at}
+use Rattle.prefix_int.specs.declared.Integer.{Integer}
 use Rattle.prefix_int.proofs.Bounds.{found}
 use Rattle.prefix_int.proofs.RoundTrip.{round_trip}
-use Rattle.shapes.specs.Shapes.{IntText, TwoTexts, text_after, texts_at}
+use Rattle.shapes.specs.Shapes.{text_after, texts_at}
+use Rattle.shapes.specs.declared.TwoTexts.{TwoTexts}
+use Rattle.shapes.specs.declared.IntText.{IntText}
 use Rattle.shapes.proofs.Bounds.{found_int_text, found_texts}
 use Rattle.shapes.proofs.RoundTrip.{int_text_round_trip, texts_round_trip}
 use Rattle.stream.specs.Instructions.{

@@ -11,7 +11,8 @@ use Rattle.answers.specs.declared.Refusal.TheVariants.{InvalidPrefix}
 use Rattle.forms.specs.Forms.{form_of}
 use Rattle.forms.specs.declared.Form.{Form}
 use Rattle.forms.specs.declared.Kind.{Kind}
-use Rattle.prefix_int.specs.Integer.{Integer, int_at}
+use Rattle.prefix_int.specs.Integer.{int_at}
+use Rattle.prefix_int.specs.declared.Integer.{Integer}
 use Rattle.stream_parts.specs.Parts.{kind_int}
 
 module _ (s : List ℕ) (at : ℕ) (k : Kind) (f : Form) (ef : f ≡ form_of k) where

@@ -7,7 +7,8 @@ use Rattle.forms.specs.declared.DecoderInstruction.TheVariants.{InsertCountIncre
 use Rattle.forms.specs.declared.EncoderInstruction.TheVariants.{InsertWithNameRef, InsertWithoutNameRef}
 use Rattle.forms.specs.declared.Kind.{Kind}
 use Rattle.forms.specs.declared.Kind.TheVariants.{Encoder, Decoder, Line}
-use Rattle.prefix_int.specs.Integer.{Integer, int_at, int_bytes}
+use Rattle.prefix_int.specs.Integer.{int_at, int_bytes}
+use Rattle.prefix_int.specs.declared.Integer.{Integer}
 use Rattle.shape_writing.specs.Joined.{int_text_bytes, texts_bytes}
 
 -- "26 InvalidPrefix: a single-instruction reader given another kind". "26 comes after the first integer, so a cut or a ninth-byte 2 wins"

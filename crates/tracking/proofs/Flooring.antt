@@ -1,19 +1,22 @@
--- What the loops of `section_floor` and `floor_of` keep, and what these answer by cases. Assumes nothing.
-use mathlib.Core.Path.{◌≡◌, refl, ◌∙◌}
+-- What the loops of `section_floor` and `queue_floor` keep, and what these answer by cases. Assumes nothing.
+use mathlib.Core.Path.{◌≡◌, refl, sym, ap, ◌∙◌}
 use mathlib.Core.Bool.{Bool, true, false, cond, and-true, and-false}
 use mathlib.Core.List.{List, [], ◌∷◌}
 use Prim.Native.Nat.{ℕ, ◌+◌, ◌≤◌, ◌<◌}
 use native.Mathlib.Numerals.{add-one}
-use native.Mathlib.Omega.{arith}
 use lib.Dec.{leb, ltb}
-use lib.ListN.{length, get_or, take, drop}
+use lib.ListN.{length, get_or, take, drop, drop_of_length-le}
+use lib.Seq.{drop-cons}
 use borrow.Author.Tests.{ltb-true, leb-true, le-leb, lt-leb}
+use Rattle.std.specs.Prelude.{Some, None, Option}
 use Rattle.model.specs.Bounds.{section_entries, queue_places}
 use Rattle.model.specs.Table.{Use}
 use Rattle.tracking.specs.declared.Queue.{Queue}
 use Rattle.tracking.specs.declared.Section.{Section}
 use Rattle.tracking.specs.Uses.{uses_of}
 use Rattle.tracking.specs.Queue.{
+  Floor,
+  floored,
   is_live_use,
   all_live,
   lowest,
@@ -24,7 +27,7 @@ use Rattle.tracking.specs.Queue.{
   lowest_of_all,
   queue_floor,
 }
-use Rattle.blocked.proofs.Lists.{next, none_left, and_left, and_right}
+use Rattle.blocked.proofs.Lists.{and_left, and_right}
 
 -- ---- one use
 
@@ -48,40 +51,33 @@ module _ (d i : ℕ) (u : Use) where
     pub counted : 1 ≤ u.count
     counted = leb-true 1 u.count (and_right (leb u.entry i) _ (and_right (ltb d u.entry) _ h))
 
--- ---- a walk of the first n elements: a test of each, and a number that each may lower
+-- ---- a walk of a list: a test of each element, and a number that each may lower
 
-pub record Walking {A : Type 0} (all : List A → Bool) (low : ℕ → List A → ℕ) (from n : ℕ) (l : List A) (least k : ℕ) : Type 0 where
-  pub passed : k ≤ n
-  pub room : n ≤ length l
-  pub test : all (take n l) ≡ all (drop k (take n l))
-  pub lower : low from (take n l) ≡ low least (drop k (take n l))
+pub record Walking {A : Type 0} (all : List A → Bool) (low : ℕ → List A → ℕ) (from : ℕ) (l : List A) (least k : ℕ) : Type 0 where
+  pub test : all l ≡ all (drop k l)
+  pub lower : low from l ≡ low least (drop k l)
 
-module _ {A : Type 0} (all : List A → Bool) (low : ℕ → List A → ℕ) (from n : ℕ) (l : List A) where
-  pub walk : n ≤ length l → Walking all low from n l from 0
-  walk h = record { passed = omega arith; room = h; test = refl; lower = refl }
+module _ {A : Type 0} (all : List A → Bool) (low : ℕ → List A → ℕ) (from : ℕ) (l : List A) where
+  pub walk : Walking all low from l from 0
+  walk = record { test = refl; lower = refl }
 
-  module _ (least k : ℕ) (w : Walking all low from n l least k) where
-    pub one : (d : A) (least' : ℕ) → k < n
+  module _ (least k : ℕ) (w : Walking all low from l least k) where
+    pub one : (d : A) (least' : ℕ) → k < length l
         → ((m : List A) → all (get_or l k d ∷ m) ≡ all m)
         → ((m : List A) → low least (get_or l k d ∷ m) ≡ low least' m)
-        → Walking all low from n l least' (k + 1)
+        → Walking all low from l least' (k + 1)
     one d least' h a b =
-        let e : drop k (take n l) ≡ get_or l k d ∷ drop (k + 1) (take n l) = rw (next n l k d w.room h, add-one) in
-        record {
-          passed = omega arith;
-          room = w.room;
-          test = w.test ∙ rw (e, a);
-          lower = w.lower ∙ rw (e, b);
-        }
+        let e : drop k l ≡ get_or l k d ∷ drop (k + 1) l = rw (drop-cons l k d h, add-one) in
+        record { test = w.test ∙ rw (e, a); lower = w.lower ∙ rw (e, b) }
 
-    pub fails : (d : A) → k < n → ((m : List A) → all (get_or l k d ∷ m) ≡ false) → all (take n l) ≡ false
-    fails d h a = w.test ∙ rw (next n l k d w.room h, a)
+    pub fails : (d : A) → k < length l → ((m : List A) → all (get_or l k d ∷ m) ≡ false) → all l ≡ false
+    fails d h a = w.test ∙ rw (drop-cons l k d h, a)
 
-    pub passes : n ≤ k → all [] ≡ true → all (take n l) ≡ true
-    passes h a = w.test ∙ rw (none_left n l k w.room h, a)
+    pub passes : length l ≤ k → all [] ≡ true → all l ≡ true
+    passes h a = w.test ∙ rw (drop_of_length-le l {i = k} h, a)
 
-    pub lowered : n ≤ k → low least [] ≡ least → low from (take n l) ≡ least
-    lowered h b = w.lower ∙ rw (none_left n l k w.room h, b)
+    pub lowered : length l ≤ k → low least [] ≡ least → low from l ≡ least
+    lowered h b = w.lower ∙ rw (drop_of_length-le l {i = k} h, b)
 
 -- ---- a section's answer
 
@@ -113,6 +109,18 @@ module _ (s : Section) (d i low : ℕ) where
   unfolding section_floor
   floor_low h = rw h
 
+  -- what a call answered
+  module _ (r : Option ℕ) (told : floored low r ≡ section_floor s d i low) where
+    pub dies : r ≡ None → section_live d i s ≡ false
+    dies e = sym floor_live ∙ ap (λ (f : Floor). f.live) (sym told) ∙ rw e
+
+    module _ (least : ℕ) (e : r ≡ Some least) where
+      pub lives : section_live d i s ≡ true
+      lives = sym floor_live ∙ ap (λ (f : Floor). f.live) (sym told) ∙ rw e
+
+      pub lowers : lowest low (uses_of s.from s.used s.uses) ≡ least
+      lowers = sym (floor_low lives) ∙ ap (λ (f : Floor). f.low) (sym told) ∙ rw e
+
 -- ---- the queue's answer
 
 -- what a read past the places' end gives
@@ -123,10 +131,6 @@ module _ (q : Queue) (d i low : ℕ) where
   pub many_sections : queue_places < q.queued → no_floor low ≡ queue_floor q d i low
   unfolding queue_floor
   many_sections h = rw (lt-leb q.queued queue_places h)
-
-  pub no_sections : q.queued ≡ 0 → record { live = true; low = low } ≡ queue_floor q d i low
-  unfolding queue_floor
-  no_sections h = rw h
 
   pub a_dead_section : all_sections_live d i (take q.queued q.places) ≡ false → no_floor low ≡ queue_floor q d i low
   unfolding queue_floor

@@ -2,5 +2,5 @@ pub mod Flooring
 pub mod Noting
 pub mod Moving
 pub mod Floors
-pub mod Uses
+pub mod Using
 pub mod Sections

@@ -16,9 +16,9 @@ use Rattle.model.specs.Bounds.{queue_places}
 use Rattle.model.specs.Report.{before_section, without_oldest}
 use Rattle.model.specs.Table as model
 use Rattle.tracking.specs.declared.Queue.{Queue}
-use Rattle.tracking.specs.declared.Queued.{Queued}
 use Rattle.tracking.specs.declared.Section.{Section}
 use Rattle.tracking.specs.Queue.{
+  Queued,
   section_of,
   sections_of,
   section_live,

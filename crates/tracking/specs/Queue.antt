@@ -1,10 +1,8 @@
 -- The queue of committed sections in its array, and what it is in the model.
-use Rattle.std.specs.Prelude.{Bool, true, false, ◌&&◌, cond, List, [], ◌∷◌, ◌++◌, map, ℕ, suc, ◌+◌, ◌-◌, min, leb, ltb, take, drop, set, replicate}
+use Rattle.std.specs.Prelude.{Some, None, Option, Bool, true, false, ◌&&◌, cond, List, [], ◌∷◌, ◌++◌, map, ℕ, suc, ◌+◌, ◌-◌, min, leb, ltb, take, drop, set, replicate}
 use Rattle.model.specs.Bounds.{section_entries, queue_places}
 use Rattle.model.specs.Table as model
-use Rattle.tracking.specs.declared.Floor.{Floor}
 use Rattle.tracking.specs.declared.Queue.{Queue}
-use Rattle.tracking.specs.declared.Queued.{Queued}
 use Rattle.tracking.specs.declared.Section.{Section}
 use Rattle.blocked.specs.Search.{first_of}
 use Rattle.tracking.specs.Uses.{no_held, uses_of}
@@ -29,8 +27,17 @@ abbrev pub lowest : ℕ → List model.Use → ℕ
 lowest low [] = low
 lowest low (u ∷ us) = lowest (min low u.entry) us
 
+-- whether every use is of a live entry, and the lowest entry that is used
+pub record Floor : Type 0 where
+  pub live : Bool
+  pub low : ℕ
+
 abbrev pub no_floor : ℕ → Floor
 no_floor low = record { live = false; low = low }
+
+abbrev pub floored : ℕ → Option ℕ → Floor
+floored low (Some least) = record { live = true; low = least }
+floored low None = no_floor low
 
 abbrev pub section_live : ℕ → ℕ → Section → Bool
 section_live d i s = leb s.used section_entries && all_live d i (uses_of s.from s.used s.uses)
@@ -57,6 +64,15 @@ queue_floor q d i low =
     (no_floor low)
 
 -- ---- one more, and one less
+
+-- the queue after a step, and whether the step was made
+pub record Queued : Type 0 where
+  pub made : Bool
+  pub queue : Queue
+
+abbrev pub stepped : Queue → Option Queue → Queued
+stepped q (Some next) = record { made = true; queue = next }
+stepped q None = record { made = false; queue = q }
 
 unfoldable pub pushing : Queue → Section → Queued
 pushing q s =

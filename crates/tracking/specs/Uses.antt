@@ -1,9 +1,9 @@
 -- The uses of a section in its array, and what they are in the model.
-use Rattle.std.specs.Prelude.{true, false, cond, List, map, ℕ, ◌+◌, leb, ltb, get_or, take, set}
+use Rattle.std.specs.Prelude.{Some, None, Option, Bool, true, false, cond, List, map, ℕ, ◌+◌, leb, ltb, get_or, take, set}
 use Rattle.model.specs.Bounds.{section_entries, entry_uses}
 use Rattle.model.specs.Table.{Use}
 use Rattle.tracking.specs.declared.Held.{Held}
-use Rattle.tracking.specs.declared.Noted.{Noted}
+use Rattle.tracking.specs.declared.Uses.{Uses}
 use Rattle.blocked.specs.Search.{first_of}
 
 abbrev pub no_held : Held
@@ -20,6 +20,16 @@ uses_of from n us = map (use_of from) (take n us)
 -- the place of an entry among the uses, or their number
 abbrev pub place_of : ℕ → List Held → ℕ
 place_of x us = first_of (λ (h : Held). h.offset) x us
+
+-- a section's uses with one more, or as they were where a bound would be passed
+pub record Noted : Type 0 where
+  pub fits : Bool
+  pub used : ℕ
+  pub uses : List Held
+
+abbrev pub noted : List Held → ℕ → Option Uses → Noted
+noted us n (Some u) = record { fits = true; used = u.used; uses = u.uses }
+noted us n None = record { fits = false; used = n; uses = us }
 
 abbrev pub noted_at : List Held → ℕ → ℕ → ℕ → Noted
 noted_at us n x i =

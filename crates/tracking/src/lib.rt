@@ -1,17 +1,17 @@
 // What a table keeps of sections: the entries that each one uses, and the queue of committed ones. The blocked ones stand in a crate of their own.
 #![tactic(auto)]
 
-ghost use Rattle.std.specs.Prelude.{◌≡◌, true, ◌<◌, ◌≤◌, min, take};
+ghost use Rattle.std.specs.Prelude.{◌≡◌, ◌<◌, ◌≤◌, eqb, position, take};
 ghost use Rattle.model.specs.Bounds.{section_entries, queue_places};
-ghost use Rattle.tracking.specs.Uses.{place_of, use_of, noting};
-ghost use Rattle.tracking.specs.Queue.{is_live_use, section_floor, queue_floor, oldest_of, no_section, pushing, releasing};
+ghost use Rattle.tracking.specs.Uses.{place_of, use_of, noted, noting};
+ghost use Rattle.tracking.specs.Queue.{is_live_use, floored, section_floor, queue_floor, stepped, pushing, releasing};
 
-pub use blocked::{Counted, Value, Waiting, block, let_go, waiting_ok};
+pub use blocked::{Value, Waiting, block, let_go, waiting_ok};
 use model::{ENTRY_USES, QUEUE_PLACES, SECTION_ENTRIES};
 
 // One entry's uses in a section: how far the entry lies above the section's first number, and how often it is used.
 #[repr(C)]
-#[derive(Clone, Copy)]
+#[derive(Clone, Copy, PartialEq, Eq)]
 pub struct Held {
     pub offset: u16,
     pub count: u16,
@@ -19,7 +19,7 @@ pub struct Held {
 
 // The entries that a section of a stream uses: the first `used` of the uses.
 #[repr(C)]
-#[derive(Clone, Copy)]
+#[derive(Clone, Copy, PartialEq, Eq)]
 pub struct Section {
     pub stream: u64,
     pub from: usize,
@@ -27,129 +27,90 @@ pub struct Section {
     pub uses: [Held; SECTION_ENTRIES],
 }
 
-// A section's uses with one more, or as they were where a bound would be passed.
+// The uses of a section: the first `used` of them.
 #[derive(Clone, Copy)]
-pub struct Noted {
-    pub fits: bool,
+pub struct Uses {
     pub used: usize,
     pub uses: [Held; SECTION_ENTRIES],
 }
 
-// Whether every use is of a live entry, and the lowest entry that is used.
-#[derive(Clone, Copy)]
-pub struct Floor {
-    pub live: bool,
-    pub low: usize,
-}
-
 // The committed sections, oldest first: the first `queued` places.
 #[repr(C)]
-#[derive(Clone, Copy)]
+#[derive(Clone, Copy, PartialEq, Eq)]
 pub struct Queue {
     pub queued: usize,
     pub places: [Section; QUEUE_PLACES],
 }
 
-// The queue after a step, and whether the step was made.
-#[derive(Clone, Copy)]
-pub struct Queued {
-    pub made: bool,
-    pub queue: Queue,
-}
+// A place with no section.
+const NO_SECTION: Section = Section {
+    stream: 0,
+    from: 0,
+    used: 0,
+    uses: [Held {
+        offset: 0,
+        count: 0,
+    }; SECTION_ENTRIES],
+};
 
-// A u16 as a usize.
-fn wide(x: u16) -> usize
-    ensures { (result ≡ x) × (result < 65536) }
+// The place of an entry among a section's uses.
+fn place_of(section: &Section, offset: u16) -> Option<usize>
+    requires { section.now.used ≤ section_entries }
+    ensures { result ≡ position (λ h. eqb h.offset offset) (take section.now.used section.now.uses) }
 {
-    x as usize
-}
-
-// The lower of two numbers.
-fn lower(a: usize, b: usize) -> usize
-    ensures { result ≡ min a b }
-{
-    if a <= b { a } else { b }
-}
-
-// The place of an entry among a section's uses, or their number.
-fn place_of(uses: [Held; SECTION_ENTRIES], used: usize, offset: u16) -> usize
-    requires { used ≤ section_entries }
-    ensures { result ≡ place_of offset (take used uses) }
-{
-    let mut i = 0;
-    while i < used {
-        let held = uses[i];
-        if held.offset == offset {
-            return i;
-        }
-        i += 1;
-    }
-    i
+    section.uses[..section.used]
+        .iter()
+        .position(|held| held.offset == offset)
 }
 
 // One more use of the entry at a place.
-fn use_again(uses: [Held; SECTION_ENTRIES], used: usize, offset: u16, i: usize) -> Noted
-    requires { (used ≤ section_entries) × (i ≡ place_of offset (take used uses)) × (i < used) }
-    ensures { result ≡ noting uses used offset }
+fn use_again(section: &Section, offset: u16, i: usize) -> Option<Uses>
+    requires { (section.now.used ≤ section_entries) × (i ≡ place_of offset (take section.now.used section.now.uses)) × (i < section.now.used) }
+    ensures { noted section.now.uses section.now.used result ≡ noting section.now.uses section.now.used offset }
 {
-    let held = uses[i];
-    let count = held.count;
-    if wide(count) >= ENTRY_USES {
-        return Noted {
-            fits: false,
-            used,
-            uses,
-        };
+    let held = section.uses[i];
+    if usize::from(held.count) >= ENTRY_USES {
+        return None;
     }
-    let mut next = uses;
-    next[i] = Held {
+    let mut uses = section.uses;
+    uses[i] = Held {
         offset,
-        count: count + 1,
+        count: held.count + 1,
     };
-    Noted {
-        fits: true,
-        used,
-        uses: next,
-    }
+    Some(Uses {
+        used: section.used,
+        uses,
+    })
 }
 
 // The first use of an entry.
-fn use_first(uses: [Held; SECTION_ENTRIES], used: usize, offset: u16) -> Noted
-    requires { (used ≤ section_entries) × (used ≤ place_of offset (take used uses)) }
-    ensures { result ≡ noting uses used offset }
+fn use_first(section: &Section, offset: u16) -> Option<Uses>
+    requires { (section.now.used ≤ section_entries) × (section.now.used ≤ place_of offset (take section.now.used section.now.uses)) }
+    ensures { noted section.now.uses section.now.used result ≡ noting section.now.uses section.now.used offset }
 {
+    let used = section.used;
     if used >= SECTION_ENTRIES {
-        return Noted {
-            fits: false,
-            used,
-            uses,
-        };
+        return None;
     }
-    let mut next = uses;
-    next[used] = Held { offset, count: 1 };
-    Noted {
-        fits: true,
+    let mut uses = section.uses;
+    uses[used] = Held { offset, count: 1 };
+    Some(Uses {
         used: used + 1,
-        uses: next,
-    }
+        uses,
+    })
 }
 
-// A reference to one more entry, or one more to an entry that is used already.
-pub fn note(uses: [Held; SECTION_ENTRIES], used: usize, offset: u16) -> Noted
-    ensures { result ≡ noting uses used offset }
+// A section's uses with a reference to one more entry, or one more to an entry that is used already; none where a bound would be passed.
+pub fn note(section: &Section, offset: u16) -> Option<Uses>
+    ensures { noted section.now.uses section.now.used result ≡ noting section.now.uses section.now.used offset }
 {
-    if used > SECTION_ENTRIES {
-        return Noted {
-            fits: false,
-            used,
-            uses,
-        };
+    if section.used > SECTION_ENTRIES {
+        return None;
     }
-    let i = place_of(uses, used, offset);
-    if i < used {
-        return use_again(uses, used, offset, i);
+    match place_of(section, offset) {
+        Some(i) => use_again(section, offset, i),
+        None => use_first(section, offset),
     }
-    use_first(uses, used, offset)
 }
 
 // Whether a use counts at least one, and is of an entry that was inserted and not dropped.
@@ -162,158 +123,86 @@ fn is_live(held: Held, from: usize, dropped: usize, inserted: usize) -> bool
     if inserted < from {
         return false;
     }
-    let offset = wide(held.offset);
+    let offset = usize::from(held.offset);
     if inserted - from < offset {
         return false;
     }
     dropped < from + offset
 }
 
-// Whether a section's uses are of live entries, and the lowest of them and a number handed in.
-pub fn section_floor(section: Section, dropped: usize, inserted: usize, low: usize) -> Floor
-    ensures { result ≡ section_floor section dropped inserted low }
+// The lowest of a section's uses and a number handed in; none where a use is of no live entry.
+// The two counts stand by themselves: the queue knows no ring, and `replay` names each of them.
+pub fn section_floor(
+    section: &Section,
+    dropped: usize,
+    inserted: usize,
+    low: usize,
+) -> Option<usize>
+    ensures { floored low result ≡ section_floor section.now dropped inserted low }
 {
-    let used = section.used;
-    let from = section.from;
-    if used > SECTION_ENTRIES {
-        return Floor { live: false, low };
+    if section.used > SECTION_ENTRIES {
+        return None;
     }
     let mut least = low;
-    let mut i = 0;
-    while i < used {
-        let held = section.uses[i];
-        let live = is_live(held, from, dropped, inserted);
-        if !live {
-            return Floor { live: false, low };
+    for &held in &section.uses[..section.used] {
+        if !is_live(held, section.from, dropped, inserted) {
+            return None;
         }
-        least = lower(least, from + wide(held.offset));
-        i += 1;
+        least = least.min(section.from + usize::from(held.offset));
     }
-    Floor {
-        live: true,
-        low: least,
-    }
+    Some(least)
 }
 
-// The same for all sections of a queue within its bound.
-fn floor_of(queue: Queue, dropped: usize, inserted: usize, low: usize) -> Floor
-    requires { queue.queued ≤ queue_places }
-    ensures { result ≡ queue_floor queue dropped inserted low }
+// The same for all sections of a queue.
+pub fn queue_floor(queue: &Queue, dropped: usize, inserted: usize, low: usize) -> Option<usize>
+    ensures { floored low result ≡ queue_floor queue.now dropped inserted low }
 {
-    let queued = queue.queued;
+    if queue.queued > QUEUE_PLACES {
+        return None;
+    }
     let mut least = low;
-    let mut i = 0;
-    while i < queued {
-        let section = queue.places[i];
-        let floor = section_floor(section, dropped, inserted, least);
-        if !floor.live {
-            return Floor { live: false, low };
-        }
-        least = floor.low;
-        i += 1;
+    for section in &queue.places[..queue.queued] {
+        least = section_floor(section, dropped, inserted, least)?;
     }
-    Floor {
-        live: true,
-        low: least,
-    }
+    Some(least)
 }
 
-// The same for every queue.
-pub fn queue_floor(queue: Queue, dropped: usize, inserted: usize, low: usize) -> Floor
-    ensures { result ≡ queue_floor queue dropped inserted low }
-{
-    let queued = queue.queued;
-    if queued > QUEUE_PLACES {
-        return Floor { live: false, low };
-    }
-    // with none queued the places are not looked at, so that they are not copied
-    if queued == 0 {
-        return Floor { live: true, low };
-    }
-    floor_of(queue, dropped, inserted, low)
-}
-
-// One more section at the queue's end, where a place is free.
-pub fn push(queue: Queue, section: Section) -> Queued
-    ensures { result ≡ pushing queue section }
+// The queue with one more section at its end, where a place is free.
+pub fn push(queue: &Queue, section: &Section) -> Option<Queue>
+    ensures { stepped queue.now result ≡ pushing queue.now section.now }
 {
     let queued = queue.queued;
     if queued >= QUEUE_PLACES {
-        return Queued { made: false, queue };
+        return None;
     }
-    let mut places = queue.places;
-    places[queued] = section;
-    let next = Queue {
-        queued: queued + 1,
-        places,
-    };
-    Queued {
-        made: true,
-        queue: next,
-    }
+    let mut next = *queue;
+    next.places[queued] = *section;
+    next.queued += 1;
+    Some(next)
 }
 
-// The place of a stream's oldest section, or how many sections there are.
-fn oldest_of(queue: Queue, stream: u64) -> usize
-    requires { queue.queued ≤ queue_places }
-    ensures { result ≡ oldest_of stream (take queue.queued queue.places) }
+// The place of a stream's oldest section.
+fn oldest_of(queue: &Queue, stream: u64) -> Option<usize>
+    requires { queue.now.queued ≤ queue_places }
+    ensures { result ≡ position (λ s. eqb s.stream stream) (take queue.now.queued queue.now.places) }
 {
-    let queued = queue.queued;
-    let mut i = 0;
-    while i < queued {
-        let section = queue.places[i];
-        if section.stream == stream {
-            return i;
-        }
-        i += 1;
-    }
-    i
-}
-
-// A place with no section.
-fn no_section() -> Section
-    ensures { result ≡ no_section }
-{
-    let held = Held {
-        offset: 0,
-        count: 0,
-    };
-    let uses = [held; SECTION_ENTRIES];
-    Section {
-        stream: 0,
-        from: 0,
-        used: 0,
-        uses,
-    }
+    queue.places[..queue.queued]
+        .iter()
+        .position(|section| section.stream == stream)
 }
 
 // The queue without the stream's oldest section: what follows moves up, and the place that falls free is cleared.
-pub fn release(queue: Queue, stream: u64) -> Queued
-    ensures { result ≡ releasing queue stream }
+pub fn release(queue: &Queue, stream: u64) -> Option<Queue>
+    ensures { stepped queue.now result ≡ releasing queue.now stream }
 {
-    let queued = queue.queued;
-    if queued > QUEUE_PLACES {
-        return Queued { made: false, queue };
+    if queue.queued > QUEUE_PLACES {
+        return None;
     }
-    let mut i = oldest_of(queue, stream);
-    if i >= queued {
-        return Queued { made: false, queue };
-    }
-    let mut places = queue.places;
-    let last = queued - 1;
-    while i < last {
-        let j = i + 1;
-        let section = places[j];
-        places[i] = section;
-        i = j;
-    }
-    places[last] = no_section();
-    let next = Queue {
-        queued: last,
-        places,
-    };
-    Queued {
-        made: true,
-        queue: next,
-    }
+    let i = oldest_of(queue, stream)?;
+    let last = queue.queued - 1;
+    let mut next = *queue;
+    next.places.copy_within(i + 1..queue.queued, i);
+    next.places[last] = NO_SECTION;
+    next.queued = last;
+    Some(next)
 }

@@ -1,10 +1,9 @@
--- Document 01: "Absolute indexes start at 1. With I inserted and D dropped, relative i names absolute I-i; with base B it names B-i,
+-- The specification: "Absolute indexes start at 1. With I inserted and D dropped, relative i names absolute I-i; with base B it names B-i,
 -- and post-base i names B+i+1. The named entry must be live, D < absolute <= I, else refused."
-use Rattle.std.specs.Prelude.{Bool, ◌&&◌, cond, ℕ, ◌+◌, ◌-◌, ltb, leb}
+use Rattle.std.specs.Prelude.{Result, Ok, Err, Bool, ◌&&◌, cond, ℕ, ◌+◌, ◌-◌, ltb, leb}
+use Rattle.answers.specs.declared.Refusal.{Refusal}
 use Rattle.answers.specs.Answer.{Answer, done, refused}
 use Rattle.answers.specs.declared.Refusal.TheVariants.{BadRelativeIndex, BadPostbaseIndex, BadIndex}
-use Rattle.vas.specs.declared.Located.{Located}
-use Rattle.vas.specs.declared.Located.TheVariants.{At, Refused}
 
 abbrev pub is_live : ℕ → ℕ → ℕ → Bool
 is_live i d absolute = ltb d absolute && leb absolute i
@@ -36,7 +35,3 @@ post_base_at i d base index =
 -- the entry at a position; "7: position at or past the live count"
 abbrev pub absolute_of : ℕ → ℕ → ℕ → Answer ℕ
 absolute_of i d position = cond (ltb position (i - d)) (done (d + position + 1)) (refused BadIndex)
-
-abbrev pub located : Located → Answer ℕ
-located (At p) = done p
-located (Refused r) = refused r

@@ -2,7 +2,8 @@
 #![tactic(auto)]
 
 ghost use Rattle.std.specs.Prelude.{◌≡◌, ◌-◌};
-ghost use Rattle.vas.specs.Vas.{located, relative_at, base_relative_at, post_base_at, absolute_of};
+ghost use Rattle.answers.specs.Answer.{answered};
+ghost use Rattle.vas.specs.Vas.{relative_at, base_relative_at, post_base_at, absolute_of};
 
 use answers::Refusal;
 
@@ -13,77 +14,70 @@ pub struct VirtualAddressSpace {
     pub dropped: usize,
 }
 
-// A position among the live entries, or an absolute index; or a refusal.
-#[derive(Clone, Copy)]
-pub enum Located {
-    At(usize),
-    Refused(Refusal),
-}
-
 impl VirtualAddressSpace {
     // The position of the entry that a relative index names.
-    pub fn relative(self, index: usize) -> Located
-        ensures { located result ≡ relative_at self.inserted self.dropped index }
+    pub fn relative(self, index: usize) -> Result<usize, Refusal>
+        ensures { answered result ≡ relative_at self.inserted self.dropped index }
     {
         let inserted = self.inserted;
         self.relative_base(inserted, index)
     }
 
     // The position of the entry that a relative index names with a base.
-    pub fn relative_base(self, base: usize, index: usize) -> Located
-        ensures { located result ≡ base_relative_at self.inserted self.dropped base index }
+    pub fn relative_base(self, base: usize, index: usize) -> Result<usize, Refusal>
+        ensures { answered result ≡ base_relative_at self.inserted self.dropped base index }
     {
         let inserted = self.inserted;
         let dropped = self.dropped;
         if inserted <= dropped {
-            return Located::Refused(Refusal::BadRelativeIndex);
+            return Err(Refusal::BadRelativeIndex);
         }
         if base <= index {
-            return Located::Refused(Refusal::BadRelativeIndex);
+            return Err(Refusal::BadRelativeIndex);
         }
         let absolute = base - index;
         if absolute <= dropped {
-            return Located::Refused(Refusal::BadRelativeIndex);
+            return Err(Refusal::BadRelativeIndex);
         }
         if inserted < absolute {
-            return Located::Refused(Refusal::BadIndex);
+            return Err(Refusal::BadIndex);
         }
-        Located::At(absolute - dropped - 1)
+        Ok(absolute - dropped - 1)
     }
 
     // The position of the entry that a post-base index names.
-    pub fn post_base(self, base: usize, index: usize) -> Located
-        ensures { located result ≡ post_base_at self.inserted self.dropped base index }
+    pub fn post_base(self, base: usize, index: usize) -> Result<usize, Refusal>
+        ensures { answered result ≡ post_base_at self.inserted self.dropped base index }
     {
         let inserted = self.inserted;
         let dropped = self.dropped;
         if inserted <= base {
-            return Located::Refused(Refusal::BadPostbaseIndex);
+            return Err(Refusal::BadPostbaseIndex);
         }
         // A sum past the inserted count is never made, so it cannot wrap.
         if inserted - base <= index {
-            return Located::Refused(Refusal::BadPostbaseIndex);
+            return Err(Refusal::BadPostbaseIndex);
         }
         let before = base + index;
         if before < dropped {
-            return Located::Refused(Refusal::BadPostbaseIndex);
+            return Err(Refusal::BadPostbaseIndex);
         }
-        Located::At(before - dropped)
+        Ok(before - dropped)
     }
 
     // The absolute index of the entry at a position.
-    pub fn index(self, position: usize) -> Located
-        ensures { located result ≡ absolute_of self.inserted self.dropped position }
+    pub fn index(self, position: usize) -> Result<usize, Refusal>
+        ensures { answered result ≡ absolute_of self.inserted self.dropped position }
     {
         let inserted = self.inserted;
         let dropped = self.dropped;
         if inserted <= dropped {
-            return Located::Refused(Refusal::BadIndex);
+            return Err(Refusal::BadIndex);
         }
         if inserted - dropped <= position {
-            return Located::Refused(Refusal::BadIndex);
+            return Err(Refusal::BadIndex);
         }
-        Located::At(dropped + position + 1)
+        Ok(dropped + position + 1)
     }
 
     // The live count, which is a section's base.

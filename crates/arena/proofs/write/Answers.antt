@@ -7,26 +7,11 @@ use Rattle.arena.proofs.write.Goals as goal
 pub returns-then-arena-lt-RING : goal.returns-then-arena-lt-RING
 returns-then-arena-lt-RING c = rw (lt-leb _ _ c.if-arena-lt-RING.true)
 
-pub loop-i-init : goal.loop-i-init
-loop-i-init c = none _ _ _
+pub loop-byte-init : goal.loop-byte-init
+loop-byte-init c = none _ _ _
 
-pub bounds-s-i : goal.bounds-s-i
-bounds-s-i c = omega arith
-
-pub bounds-arena-q : goal.bounds-arena-q
-bounds-arena-q c = omega arith
-
-pub overflow_add-q : goal.overflow_add-q
-overflow_add-q c = omega arith
-
-pub overflow_add-i : goal.overflow_add-i
-overflow_add-i c = omega arith
-
-pub loop-i-smaller : goal.loop-i-smaller
-loop-i-smaller c = omega arith
-
-pub loop-i-preserved : goal.loop-i-preserved
-loop-i-preserved c = one _ _ _ _ _ _ c.loop-i.invariant (omega arith)
+pub loop-byte-preserved : goal.loop-byte-preserved
+loop-byte-preserved c = one _ _ _ _ _ _ c.loop-byte.invariant (omega arith)
 
 pub returns : goal.returns
-returns c = rw (le-leb _ _ c.if-arena-lt-RING.false) (all _ _ _ _ _ _ c.loop-i.invariant c.loop-i-test.false)
+returns c = rw (le-leb _ _ c.if-arena-lt-RING.false) (all _ _ _ _ _ _ c.loop-byte.invariant c.loop-byte-test.false)

@@ -23,7 +23,7 @@ told t x r n number table consumed inserted written answer = rw (number, table, 
 
 pub returns : goal.returns
 returns c =
-    let call = c.on_encoder_recv-r in
+    let call = c.on_encoder_recv-received in
     let h = call.ensures in
     let a = c.args in
     let x : Streamed Held = received a.table a.arena.now a.bytes.now (length a.out.now) in record {

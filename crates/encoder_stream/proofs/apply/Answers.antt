@@ -19,24 +19,24 @@ overflow_add-end c = omega (arith, name_ref_within (length c.args.s.now) c.args.
 pub returns-in-Duplicate : goal.returns-in-Duplicate
 returns-in-Duplicate c =
     let a = c.args in
-    applies_duplicate a.low (holding a.ring a.arena.now) a.s.now a.one _ c.in-Duplicate.is c.duplicate.ensures
+    applies_duplicate a.low (holding a.ring.now a.arena.now) a.s.now a.one _ c.in-Duplicate.is c.duplicate.ensures
 
 pub returns-in-Capacity : goal.returns-in-Capacity
 returns-in-Capacity c =
     let a = c.args in
-    applies_capacity a.low (holding a.ring a.arena.now) a.s.now a.one _ c.in-Capacity.is (c.set_capacity.ensures _)
+    applies_capacity a.low (holding a.ring.now a.arena.now) a.s.now a.one _ c.in-Capacity.is (c.set_capacity.ensures _)
 
 pub returns-in-Literal : goal.returns-in-Literal
 returns-in-Literal c =
     let a = c.args in
-    applies_literal a.low (holding a.ring a.arena.now) a.s.now a.one _ _ _ _ c.in-Literal.is c.push.ensures
+    applies_literal a.low (holding a.ring.now a.arena.now) a.s.now a.one _ _ _ _ c.in-Literal.is c.push.ensures
 
 pub returns-then-is_static : goal.returns-then-is_static
 returns-then-is_static c =
     let a = c.args in
-    applies_name_ref a.low (holding a.ring a.arena.now) a.s.now a.one _ true _ _ _ c.in-NameRef.is c.if-is_static.true c.insert_static.ensures
+    applies_name_ref a.low (holding a.ring.now a.arena.now) a.s.now a.one _ true _ _ _ c.in-NameRef.is c.if-is_static.true c.insert_static.ensures
 
 pub returns-else-is_static : goal.returns-else-is_static
 returns-else-is_static c =
     let a = c.args in
-    applies_name_ref a.low (holding a.ring a.arena.now) a.s.now a.one _ false _ _ _ c.in-NameRef.is c.if-is_static.false c.insert_named.ensures
+    applies_name_ref a.low (holding a.ring.now a.arena.now) a.s.now a.one _ false _ _ _ c.in-NameRef.is c.if-is_static.false c.insert_named.ensures

@@ -1,7 +1,7 @@
 -- `encoder_stream::write_increment`: nothing, too many, or the bytes of the increment. Assumes nothing.
 use Prim.Native.Nat.{◌-◌}
 use native.Mathlib.Omega.{arith}
-use Rattle.encoder_stream.proofs.Increments.{none_inserted, too_many, one_increment, never_refused}
+use Rattle.encoder_stream.proofs.Increments.{none_inserted, too_many, told_increment}
 use Rattle.encoder_stream.proofs.write_increment.Goals as goal
 
 pub returns-then-after-before : goal.returns-then-after-before
@@ -10,12 +10,7 @@ returns-then-after-before c = let a = c.args in none_inserted (a.after - a.befor
 pub returns-then-after-before-gt-MOST_INSERTS : goal.returns-then-after-before-gt-MOST_INSERTS
 returns-then-after-before-gt-MOST_INSERTS c = let a = c.args in too_many (a.after - a.before) a.out.now (omega arith)
 
-pub returns-in-Next : goal.returns-in-Next
-returns-in-Next c =
+pub returns : goal.returns
+returns c =
     let a = c.args in
-    one_increment (a.after - a.before) a.out.now (omega arith) (omega arith) (omega arith) _ c.write_integer-w.result c.write_integer-w.ensures _ c.in-Next.is
-
-pub returns-in-Refused : goal.returns-in-Refused
-returns-in-Refused c =
-    let a = c.args in
-    absurd (never_refused (a.after - a.before) a.out.now (omega arith) (omega arith) (omega arith) _ c.write_integer-w.result c.write_integer-w.ensures _ c.in-Refused.is)
+    told_increment (a.after - a.before) a.out.now (omega arith) (omega arith) (omega arith) _ c.write_integer.result c.write_integer.ensures

@@ -1,24 +1,17 @@
 -- `instructions::read_capacity`: what its reader found, as a capacity. Assumes nothing.
 use mathlib.Core.Path.{sym, ap, ◌∙◌}
+use Rattle.std.specs.Prelude.{Ok}
+use Rattle.answers.specs.Answer.{answered_or_cut}
 use Rattle.forms.specs.declared.EncoderInstruction.TheVariants.{DynamicTableSizeUpdate}
 use Rattle.forms.specs.declared.Kind.TheVariants.{Encoder}
-use Rattle.stream.specs.Instructions.{integer_read}
 use Rattle.stream.proofs.Found.{integer_behind}
 use Rattle.instructions.specs.Instruction.{of_kind}
 use Rattle.instructions.proofs.read_capacity.Goals as goal
 
-pub returns-in-Cut : goal.returns-in-Cut
+pub returns : goal.returns
 unfolding of_kind
-returns-in-Cut c = (rw (sym c.read_integer-i.ensures ∙ ap integer_read c.in-Cut.is), tt)
-
-pub returns-in-Refused : goal.returns-in-Refused
-unfolding of_kind
-returns-in-Refused c = (rw (sym c.read_integer-i.ensures ∙ ap integer_read c.in-Refused.is), tt)
-
-pub returns-in-Integer : goal.returns-in-Integer
-unfolding of_kind
-returns-in-Integer c =
+returns c =
     let a = c.args in
-    let h = sym c.read_integer-i.ensures ∙ ap integer_read c.in-Integer.is in
+    let h = sym c.read_integer.ensures ∙ ap answered_or_cut (c.in_ok-capacity.was ∙ ap Ok c.in-Some.is) in
     let f = integer_behind a.s.now a.at (Encoder DynamicTableSizeUpdate) _ h in
     (rw h, (tt, f.past, f.within))

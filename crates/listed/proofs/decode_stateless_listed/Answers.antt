@@ -10,7 +10,7 @@ pub returns : goal.returns
 returns c =
     let a = c.args in
     let d = c.decode_stateless-decoded in
-    let many : length d.new.fields ≡ length (take c.lent-count.result (replicate records a.fill)) = d.auto.fields in
-    let said : section_of d.result d.new.fields d.new.out ≡ read_all (λ f. f) (stateless a.max.bytes) a.s.now (take c.lent-count.result (replicate records a.fill)) a.out.now = d.ensures in
-    rw c.lent-count.ensures
-    (lists a.fill a.room d.new.fields (rw c.lent-count.ensures at many ∙ part_many a.fill a.room) (stateless a.max.bytes) a.s.now d.result a.out.now _ (rw c.lent-count.ensures at said))
+    let many : length d.new.fields ≡ length (take c.min-count.result (replicate records a.fill)) = d.auto.fields in
+    let said : section_of d.result d.new.fields d.new.out ≡ read_all (λ f. f) (stateless a.max.bytes) a.s.now (take c.min-count.result (replicate records a.fill)) a.out.now = d.ensures in
+    rw c.min-count.ensures
+    (lists a.fill a.room d.new.fields (rw c.min-count.ensures at many ∙ part_many a.fill a.room) (stateless a.max.bytes) a.s.now d.result a.out.now _ (rw c.min-count.ensures at said))

@@ -2,5 +2,5 @@
 use Rattle.qpack_table.proofs.Usable.{fresh_keeps}
 use Rattle.qpack_table.proofs.main.Goals as goal
 
-pub say-requires : goal.say-requires
-say-requires c = fresh_keeps c.fresh.ensures
+pub report_of-report-requires : goal.report_of-report-requires
+report_of-report-requires c = fresh_keeps c.fresh.ensures

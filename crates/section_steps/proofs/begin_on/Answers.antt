@@ -1,33 +1,37 @@
 -- `section_steps::begin_on`: 22, 18, or what the prefix gives. Assumes nothing.
-use mathlib.Core.Path.{◌≡◌, sym, ◌∙◌}
-use borrow.Author.Tests.{not-true, not-false}
-use Rattle.dynamic.specs.Record.{sound}
-use Rattle.dynamic.proofs.Told.{told_sound}
-use Rattle.section_steps.proofs.Starting.{on_short, on_started, on_broken, on_open, on_prefix}
-use Rattle.section_steps.proofs.begin_on.Goals.{After-checked-check}
+use mathlib.Core.Path.{◌≡◌, sym, ap, ◌∙◌}
+use borrow.Author.Rules.{rules}
+use Rattle.std.specs.Prelude.{Err, Some}
+use Rattle.answers.specs.Answer.{answered}
+use Rattle.dynamic.proofs.Steps.{or_ok, or_err}
+use Rattle.section_steps.proofs.Starting.{on_broken, on_open, on_prefix}
+use Rattle.section_steps.proofs.begin_on.Goals.{In_ok-ok_or}
 use Rattle.section_steps.proofs.begin_on.Goals as goal
 
-pub returns-then-arena-lt-RING : goal.returns-then-arena-lt-RING
-returns-then-arena-lt-RING c = let a = c.args in on_short a.table a.arena.now a.s.now a.c c.if-arena-lt-RING.true
+some : (c : In_ok-ok_or) → c.checked.result ≡ Some c.in_ok-ok_or.field-0
+some c = or_ok _ _ _ c.ok_or.ensures.value _ c.in_ok-ok_or.was
 
-pub returns-then-c : goal.returns-then-c
-returns-then-c c = let a = c.args in on_started a.table a.arena.now a.s.now a.c c.if-arena-lt-RING.false c.if-c.true
-
-tells : (c : After-checked-check) → c.checked-check.result.sound ≡ sound c.args.table
-tells c = told_sound c.args.table c.checked-check.result c.checked-check.ensures
-
-pub returns-then-not-check : goal.returns-then-not-check
-returns-then-not-check c =
+pub returns-in_err-ok_or : goal.returns-in_err-ok_or
+returns-in_err-ok_or c =
     let a = c.args in
-    on_broken a.table a.arena.now a.s.now a.c c.if-arena-lt-RING.false c.if-c.false (sym (tells (goal.at.returns-then-not-check c).After-checked-check) ∙ not-true _ c.if-not-check.true)
+    let none = or_err _ _ _ c.ok_or.ensures.value _ c.in_err-ok_or.was in
+    let e : c.from_residual.result ≡ Err c.in_err-ok_or.field-0.0 = search rules in
+    rw (e, none.1) (on_broken a.table.now a.arena.now a.s.now a.c c.if-arena-lt-RING.false c.if-c.false _ c.checked.ensures none.0)
 
 pub returns-then-table : goal.returns-then-table
 returns-then-table c =
     let a = c.args in
-    on_open a.table a.arena.now a.s.now a.c c.if-arena-lt-RING.false c.if-c.false (sym (tells (goal.at.returns-then-table c).After-checked-check) ∙ not-false _ c.if-not-check.false) c.if-table.true
+    on_open a.table.now a.arena.now a.s.now a.c c.if-arena-lt-RING.false c.if-c.false _ c.checked.ensures _ (some (goal.at.returns-then-table c).In_ok-ok_or) c.if-table.true
+
+pub returns-in_err-prefix : goal.returns-in_err-prefix
+returns-in_err-prefix c =
+    let a = c.args in
+    let e : c.from_residual-in_err-prefix.result ≡ Err c.in_err-prefix.field-0.0 = search rules in
+    rw e
+    (on_prefix a.table.now a.arena.now a.s.now a.c c.if-arena-lt-RING.false c.if-c.false _ c.checked.ensures _ (some (goal.at.returns-in_err-prefix c).In_ok-ok_or) c.if-table.false _ (sym (ap answered c.in_err-prefix.was) ∙ c.read_prefix.ensures))
 
 pub returns : goal.returns
 returns c =
     let a = c.args in
-    on_prefix a.table a.arena.now a.s.now a.c c.if-arena-lt-RING.false c.if-c.false (sym (tells (goal.at.returns c).After-checked-check) ∙ not-false _ c.if-not-check.false) c.if-table.false
-    c.read_prefix-prefix.result c.read_prefix-prefix.ensures c.past_prefix.result c.past_prefix.ensures
+    rw c.past_prefix.ensures
+    (on_prefix a.table.now a.arena.now a.s.now a.c c.if-arena-lt-RING.false c.if-c.false _ c.checked.ensures _ (some (goal.at.returns c).In_ok-ok_or) c.if-table.false _ (sym (ap answered c.in_ok-prefix.was) ∙ c.read_prefix.ensures))

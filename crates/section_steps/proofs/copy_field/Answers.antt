@@ -33,11 +33,17 @@ pub overflow_add-len : goal.overflow_add-len
 overflow_add-len c =
     omega (arith, fixed_room c.args.name c.args.value _ _ _ _ c.in-Fixed.is c.in-Fixed-value.is c.args.at (length c.args.out.now) c.requires.4, c.ranges, c.well_formed)
 
+pub unwrap-requires : goal.unwrap-requires
+unwrap-requires c =
+    let a = c.args in
+    (whole_copied a.name a.value _ _ _ _ c.in-Fixed.is c.in-Fixed-value.is
+    a.s.now a.arena.now a.out.now a.at _ (omega arith) (length a.s.now) c.requires.1 c.requires.4 c.copy.result c.copy.ensures).0
+
 pub returns-then-start-len : goal.returns-then-start-len
 returns-then-start-len c =
     let a = c.args in
-    whole_copied a.name a.value _ _ _ _ c.in-Fixed.is c.in-Fixed-value.is
-    a.s.now a.arena.now a.out.now a.at _ (omega arith) (length a.s.now) c.requires.1 c.requires.4 c.copy.result c.copy.ensures
+    (whole_copied a.name a.value _ _ _ _ c.in-Fixed.is c.in-Fixed-value.is
+    a.s.now a.arena.now a.out.now a.at _ (omega arith) (length a.s.now) c.requires.1 c.requires.4 c.copy.result c.copy.ensures).1
 
 pub copy_text-requires : goal.copy_text-requires
 copy_text-requires c =

@@ -1,23 +1,21 @@
 -- `section_steps::line_on`: a short arena, the end, or the field of the line. Assumes nothing.
+use mathlib.Core.Path.{refl}
 use borrow.Author.Tests.{le-leb}
-use Rattle.field_lines.specs.Line.{Live, live_in}
+use Rattle.field_lines.specs.Line.{live_of}
 use Rattle.section_steps.proofs.Lines.{in_short, in_ended, in_placed}
 use Rattle.section_steps.proofs.Stepping.{ready_on}
-use Rattle.section_steps.proofs.line_on.Goals.{Start}
 use Rattle.section_steps.proofs.line_on.Goals as goal
-
--- what is live of the ring that is handed in
-abbrev live_now : Start → Live
-live_now z = live_in z.args.starts.now z.args.names.now z.args.values.now z.args.live z.args.arena.now
 
 pub returns-then-arena-lt-RING : goal.returns-then-arena-lt-RING
 returns-then-arena-lt-RING c =
-    let n = in_short (live_now (goal.at.returns-then-arena-lt-RING c).Start) c.args.arena.now c.args.s.now c.args.out.now c.args.room c.args.c _ c.if-arena-lt-RING.true c.ended.ensures in
+    let a = c.args in
+    let n = in_short (live_of a.ring.now a.arena.now) a.arena.now a.s.now a.out.now a.room a.c _ c.if-arena-lt-RING.true refl in
     (n.answer, n.bytes)
 
 pub returns-then-s-c : goal.returns-then-s-c
 returns-then-s-c c =
-    let n = in_ended (live_now (goal.at.returns-then-s-c c).Start) c.args.arena.now c.args.s.now c.args.out.now c.args.room c.args.c _ c.if-arena-lt-RING.false c.if-s-c.true c.ended-then-s-c.ensures in
+    let a = c.args in
+    let n = in_ended (live_of a.ring.now a.arena.now) a.arena.now a.s.now a.out.now a.room a.c _ c.if-arena-lt-RING.false c.if-s-c.true refl in
     (n.answer, n.bytes)
 
 pub place-requires : goal.place-requires
@@ -26,5 +24,6 @@ place-requires c =
 
 pub returns : goal.returns
 returns c =
-    let n = in_placed (live_now (goal.at.returns c).Start) c.args.arena.now c.args.s.now c.args.out.now c.args.room c.args.c _ c.if-arena-lt-RING.false c.if-s-c.false _ (c.read_on-line.ensures.by_index c.args.arena.now) c.place.ensures.0 _ c.place.ensures.1 in
+    let a = c.args in
+    let n = in_placed (live_of a.ring.now a.arena.now) a.arena.now a.s.now a.out.now a.room a.c _ c.if-arena-lt-RING.false c.if-s-c.false _ (c.read_on-line.ensures.by_index a.arena.now) c.place.ensures.0 _ c.place.ensures.1 in
     (n.answer, n.bytes)

@@ -1,5 +1,4 @@
 -- `static_table::get`: the arrays are Appendix A's starts and lengths, which antt computes, so their elements are the entry's place. Assumes nothing.
-use mathlib.Core.Path.{refl}
 use native.Mathlib.Omega.{arith}
 use Rattle.static_table.specs.AppendixA.{appendix_a}
 use Rattle.static_table.proofs.Table.{arrays, entry_done, entry_refused}
@@ -12,4 +11,4 @@ pub returns : goal.returns
 unfolding appendix_a
 returns c =
     let i = c.args.index in
-    entry_done arrays i _ _ (omega arith) c.wide16.ensures c.wide8.ensures refl _ c.wide8-2.ensures
+    entry_done arrays i _ _ (omega arith) c.from.ensures c.from-2.ensures _ c.from-3.ensures

@@ -6,14 +6,14 @@ use native.Mathlib.Omega.{arith}
 use lib.ListN.{length, length-append}
 use lib.Pow.{pow_mono}
 use lib.Seq.{sets}
-use Rattle.answers.specs.declared.Written.TheVariants.{Next}
+use Rattle.std.specs.Prelude.{Ok}
 use Rattle.answers.proofs.Write.{sets_append}
 use Rattle.byte_writing.proofs.Stretch.{text_sets}
 use Rattle.prefix_int.specs.Integer.{encode}
 use Rattle.int_writing.proofs.Writers.{writes_stored}
 use Rattle.int_writing.proofs.Writing.{bytes_good, good_call_lem}
 use Rattle.text_writing.proofs.Laws.{length_call, text_good}
-use Rattle.text_writing.proofs.store.Goals.{After-write, In-Next}
+use Rattle.text_writing.proofs.store.Goals.{After-write}
 use Rattle.text_writing.proofs.store.Goals as goal
 
 module _ (c : After-write) where
@@ -28,39 +28,25 @@ module _ (c : After-write) where
 
   stored : let a = c.args in
       let bytes = encode a.width (a.flags * 2) (length a.text.now) in
-      (c.write.result ≡ Next (a.at + length bytes)) × (c.write.new.buf ≡ sets a.buf.now a.at bytes)
+      (c.write.result ≡ Ok (a.at + length bytes)) × (c.write.new.buf ≡ sets a.buf.now a.at bytes)
   stored =
       let a = c.args in
       let g = length_call a.width a.flags (text_good a.width a.flags c.requires.0) in
       let given = bytes_good a.width (a.flags * 2) (length a.text.now) (good_call_lem _ _ g) (omega (arith, c.well_formed)) in
       writes_stored _ _ _ a.at _ _ given (omega (arith, room)) c.write.ensures
 
-pub overflow_mul-flags : goal.overflow_mul-flags
-overflow_mul-flags c =
-    let g = text_good c.args.width c.args.flags c.requires.0 in
-    omega (arith, g.flags, pow_mono {i = 7 - c.args.width} {j = 7} (omega arith))
-
-pub returns-in_default : goal.returns-in_default
-returns-in_default c =
-    let yes = (stored (goal.at.returns-in_default c).After-write).0 in
-    let no = c.in_default.is in
-    let z : ◌≡◌ {A = ℕ} 0 1 = cc in
-    absurd (omega arith)
-
--- where the text starts
-start : (c : In-Next)
-    → let a = c.args in
-    c.in-Next.start ≡ a.at + length (encode a.width (a.flags * 2) (length a.text.now))
-start c =
-    let p = c.in-Next.is in
-    let q = (stored (goal.at.In-Next c).After-write).0 in
-    cc
+pub unwrap-start-requires : goal.unwrap-start-requires
+unwrap-start-requires c = rw (stored (goal.at.unwrap-start-requires c).After-write).0
 
 pub returns : goal.returns
 returns c =
     let a = c.args in
     let t = a.text.now in
-    let there : c.in-Next.start + length t ≤ length c.write.new.buf = omega (arith, start (goal.at.returns c).In-Next, room (goal.at.returns c).After-write, c.write.auto.buf) in
+    let w = (goal.at.returns c).After-write in
+    let s = stored w in
+    let long = length (encode a.width (a.flags * 2) (length t)) in
+    let start : c.unwrap-start.result ≡ a.at + long = let p = c.unwrap-start.ensures in let q = s.0 in cc in
+    let there : c.unwrap-start.result + length t ≤ length c.write.new.buf = omega (arith, start, room w, c.write.auto.buf) in
     (text_sets t _ _ _ _ there c.write-2.ensures).1
-    ∙ ap₂ (λ (l : List ℕ) (k : ℕ). sets l k t) (stored (goal.at.returns c).After-write).1 (start (goal.at.returns c).In-Next)
+    ∙ ap₂ (λ (l : List ℕ) (k : ℕ). sets l k t) s.1 start
     ∙ sets_append (encode a.width (a.flags * 2) (length t)) t a.buf.now a.at

@@ -1,4 +1,4 @@
--- `ring::Ring::sound`: the count is tested, and `entries::check` tells the rest. Assumes nothing.
+-- `ring::Ring::sound`: the count is tested, and `entries::Slots::check` tells the rest. Assumes nothing.
 use borrow.Author.Tests.{le-leb, lt-leb}
 use Rattle.ring.specs.Ring.{keeps}
 use Rattle.ring.proofs.Ring.sound.Goals as goal
@@ -9,5 +9,4 @@ returns-then-self-gt-LARGEST_COUNT c = rw (lt-leb _ _ c.if-self-gt-LARGEST_COUNT
 
 pub returns : goal.returns
 unfolding keeps
-returns c =
-    rw (le-leb _ _ c.if-self-gt-LARGEST_COUNT.false) c.check.ensures
+returns c = rw (le-leb _ _ c.if-self-gt-LARGEST_COUNT.false) (rw (c.slots.ensures.starts, c.slots.ensures.names, c.slots.ensures.values) at c.check.ensures)

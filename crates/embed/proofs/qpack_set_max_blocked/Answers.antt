@@ -1,7 +1,0 @@
--- `embed::qpack_set_max_blocked`: the table's call. Assumes nothing.
-use mathlib.Core.Path.{ap, ◌∙◌}
-use Rattle.embed.specs.Outcomes.{outcome_of}
-use Rattle.embed.proofs.qpack_set_max_blocked.Goals as goal
-
-pub returns : goal.returns
-returns c = c.told.ensures ∙ ap outcome_of c.set_max_blocked.ensures.next

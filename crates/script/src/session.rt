@@ -1,0 +1,82 @@
+// A whole script: each command's call is made, and its answer written on a line.
+use crate::faults::Fault;
+use crate::input::{Command, Script};
+use crate::text::Buffer;
+use std::alloc::{AllocError, Global};
+use std::io;
+use std::io::{BufRead, Write};
+
+// Why no more commands are answered.
+#[derive(Drop)]
+pub enum Stop {
+    BadInput(Fault),
+    NoOutput(io::Error),
+}
+
+impl From<Fault> for Stop {
+    fn from(fault: Fault) -> Stop {
+        Stop::BadInput(fault)
+    }
+}
+
+impl From<io::Error> for Stop {
+    fn from(why: io::Error) -> Stop {
+        Stop::NoOutput(why)
+    }
+}
+
+impl From<AllocError> for Stop {
+    fn from(why: AllocError) -> Stop {
+        Stop::NoOutput(io::Error::from(why))
+    }
+}
+
+// What makes a command's call. It writes the answer but for the output buffer, which it is lent.
+pub trait Calls {
+    fn make<W: Write>(&mut self, c: &Command, buffer: &mut [u8], out: &mut W) -> Result<(), Stop>;
+}
+
+// Answers the next command, so that who sent it can read the line; false at the script's end.
+fn answer_next<R: BufRead + Drop, C: Calls, W: Write>(
+    script: &mut Script<R>,
+    buffer: &mut Vec<u8>,
+    calls: &mut C,
+    out: &mut W,
+) -> Result<bool, Stop> {
+    let Some(command) = script.next_command()? else {
+        return Ok(false);
+    };
+    buffer.clear();
+    buffer.resize(command.room, command.fill.unwrap_or(0))?;
+    calls.make(&command, buffer, out)?;
+    let shown = Buffer {
+        bytes: buffer,
+        fill: command.fill,
+    };
+    writeln!(out, "{shown}")?;
+    out.flush()?;
+    Ok(true)
+}
+
+// Answers a script's commands, up to its end or to the first one that is bad. The count is only there so that the loop ends.
+pub fn run<R: BufRead + Drop, C: Calls, W: Write>(
+    alloc: Global,
+    source: R,
+    calls: &mut C,
+    out: &mut W,
+) -> io::Result<()> {
+    let mut script = Script::new(alloc, source)?;
+    let mut buffer = Vec::new(alloc);
+    for at in 1..u64::MAX {
+        match answer_next(&mut script, &mut buffer, calls, out) {
+            Ok(true) => {}
+            Ok(false) => break,
+            Err(Stop::BadInput(fault)) => {
+                writeln!(out, "bad input in command {at}: {fault}")?;
+                break;
+            }
+            Err(Stop::NoOutput(why)) => return Err(why),
+        }
+    }
+    out.flush()
+}

@@ -1,0 +1,73 @@
+// The words of answers.
+use std::fmt;
+
+#[derive(Clone, Copy)]
+pub enum Word {
+    Static,
+    Relative,
+    PostBase,
+    NotFound,
+    Inserted,
+    Duplicated,
+    WithName,
+    WithStaticName,
+    NotInserted,
+    Input,
+    Fixed,
+    Stored,
+    Acknowledge,
+    Cancel,
+    Increment,
+    Cut,
+    Duplicate,
+    Capacity,
+    Literal,
+    NameRef,
+    Indexed,
+    Named,
+    Found,
+    Made,
+    TooLarge,
+    NoRoom,
+    Full,
+    BadCall,
+    At,
+    Nothing,
+}
+
+impl fmt::Display for Word {
+    fn fmt<W: fmt::Write>(&self, f: &mut fmt::Formatter<W>) -> fmt::Result {
+        f.write_str(match self {
+            Word::Static => "static",
+            Word::Relative => "relative",
+            Word::PostBase => "post-base",
+            Word::NotFound => "not-found",
+            Word::Inserted => "inserted",
+            Word::Duplicated => "duplicated",
+            Word::WithName => "with-name",
+            Word::WithStaticName => "with-static-name",
+            Word::NotInserted => "not-inserted",
+            Word::Input => "input",
+            Word::Fixed => "fixed",
+            Word::Stored => "stored",
+            Word::Acknowledge => "acknowledge",
+            Word::Cancel => "cancel",
+            Word::Increment => "increment",
+            Word::Cut => "cut",
+            Word::Duplicate => "duplicate",
+            Word::Capacity => "capacity",
+            Word::Literal => "literal",
+            Word::NameRef => "name-ref",
+            Word::Indexed => "indexed",
+            Word::Named => "named",
+            Word::Found => "found",
+            Word::Made => "made",
+            Word::TooLarge => "too-large",
+            Word::NoRoom => "no-room",
+            Word::Full => "full",
+            Word::BadCall => "bad-call",
+            Word::At => "at",
+            Word::Nothing => "nothing",
+        })
+    }
+}
