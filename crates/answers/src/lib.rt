@@ -35,7 +35,7 @@ pub enum Refusal {
     InvalidPrefix,
 }
 
-// A refusal's number.
+// A refusal's number, under the name by which the pages and the scripts ask for it.
 pub fn number(r: Refusal) -> u8
     ensures { result ≡ number_of r }
 {

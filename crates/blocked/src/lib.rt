@@ -15,7 +15,7 @@ pub struct Value {
     pub sections: usize,
 }
 
-// The blocked sections: how many there are in all, and the first `distinct` values.
+// The blocked sections: how many there are in all, and the first `distinct` values. Fixed memory, whose layout C knows.
 #[repr(C)]
 #[derive(Clone, Copy, PartialEq, Eq)]
 pub struct Waiting {

@@ -60,7 +60,7 @@ pub struct Inserting {
     pub inserted: Result<Insertion, Refusal>,
 }
 
-// What names a new entry: an older one by its absolute index, or the static table.
+// What names a new entry: an older one by its absolute index, or the static table; or nothing does, of four ways.
 #[derive(Clone, Copy)]
 pub enum Origin {
     EqualEntry(usize),
@@ -69,7 +69,7 @@ pub enum Origin {
     Plain,
 }
 
-// Larger than any entry's index.
+// Larger than any entry's index: the least of some indexes, where there are none.
 const NOTHING_USED: usize = 18446744073709551615;
 
 // No use.
@@ -250,6 +250,8 @@ impl Table {
         self.ring = ring;
         Ok(())
     }
+
+    // Each call that C makes takes the record by value and gives it back: a step of its own, and what the step answered.
 
     // Sets the capacity.
     pub fn set_capacity(mut self, capacity: usize) -> Replied

@@ -54,7 +54,7 @@ pub struct DecoderOutcome {
     pub answer: u8,
 }
 
-// How many records and bytes were stored, the size sum, whether the required count was above 0, and the answer.
+// How many records and bytes were stored, the size sum, whether the required count was above 0, and the answer; as C has them.
 #[repr(C)]
 #[derive(Clone, Copy)]
 pub struct SectionOutcome {

@@ -398,7 +398,7 @@ static ROWS: [(Opcode, Lent, usize, usize, Bound); 105] = [
     ),
 ];
 
-// What a command has.
+// What a command has: the flags say whether, and no value stands beside them.
 #[derive(Clone, Copy)]
 pub struct Shape {
     pub opcode: Opcode,

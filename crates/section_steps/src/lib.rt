@@ -26,6 +26,7 @@ pub struct Field {
 
 // Where a reader stands: whether the prefix was read and what it gave, the next byte, and what was stored so far.
 // The flag stands beside the numbers, and no Option: a caller may come with any cursor, and `cursor_at` speaks of each.
+// The buffer is lent to each step, so its used length stands here.
 #[derive(Clone, Copy)]
 pub struct Cursor {
     pub started: bool,
@@ -188,7 +189,7 @@ fn copy_field(s: &[u8], arena: &[u8], name: Text, value: Text, out: &mut [u8], a
     copy_text(s, arena, value, out, at + text_len(name));
 }
 
-// The field of a line, stored where it fits.
+// The field of a line, stored where it fits: what is lent, the line and its limits, and where the reader stands.
 fn place(
     s: &[u8],
     arena: &[u8],

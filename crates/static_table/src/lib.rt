@@ -24,6 +24,7 @@ const ENTRIES: usize = 99;
 // How many bytes the names and values have together.
 const SIZE: usize = 2026;
 
+// Constant arrays of numbers are a form that the user names.
 const BYTES: [u8; SIZE] = [
     58, 97, 117, 116, 104, 111, 114, 105, 116, 121, 58, 112, 97, 116, 104, 47, 97, 103, 101, 48,
     99, 111, 110, 116, 101, 110, 116, 45, 100, 105, 115, 112, 111, 115, 105, 116, 105, 111, 110,
@@ -215,7 +216,7 @@ pub fn get(index: u64) -> Result<Place, Refusal>
     })
 }
 
-// The lowest index of a field.
+// The lowest index of a field: from the first entry on, as the lowest is the answer.
 #[tactic(auto, unfolding(crate::specs::Static::lowest_field))]
 pub fn find(name: &[u8], value: &[u8]) -> Option<usize>
     ensures { found result ≡ lowest_field name.now value.now }
@@ -229,7 +230,7 @@ pub fn find(name: &[u8], value: &[u8]) -> Option<usize>
     None
 }
 
-// The lowest index of a name.
+// The lowest index of a name. A loop for both would take the test as a closure, with its promise said again.
 #[tactic(auto, unfolding(crate::specs::Static::lowest_name))]
 pub fn find_name(name: &[u8]) -> Option<usize>
     ensures { found result ≡ lowest_name name.now }

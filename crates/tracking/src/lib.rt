@@ -17,7 +17,7 @@ pub struct Held {
     pub count: u16,
 }
 
-// The entries that a section of a stream uses: the first `used` of the uses.
+// The entries that a section of a stream uses: the first `used` of the uses. Fixed memory, whose layout C knows.
 #[repr(C)]
 #[derive(Clone, Copy, PartialEq, Eq)]
 pub struct Section {
@@ -34,7 +34,7 @@ pub struct Uses {
     pub uses: [Held; SECTION_ENTRIES],
 }
 
-// The committed sections, oldest first: the first `queued` places.
+// The committed sections, oldest first: the first `queued` places. Fixed memory, whose layout C knows.
 #[repr(C)]
 #[derive(Clone, Copy, PartialEq, Eq)]
 pub struct Queue {
