@@ -2,19 +2,19 @@
 use mathlib.Core.Path.{◌≡◌, refl, sym}
 use mathlib.Core.Bool.{Bool, true, false}
 use mathlib.Core.List.{List, [], ◌∷◌}
-use Prim.Native.Nat.{ℕ, suc, ◌+◌, ◌-◌, ◌≤◌, ◌<◌}
+use Prim.Native.Nat.{ℕ, ◌+◌, ◌-◌, ◌≤◌, ◌<◌}
 use native.Mathlib.Numerals.{add-one}
 use native.Mathlib.Omega.{arith}
 use lib.Dec.{leb}
-use lib.ListN.{length, get_or, take, drop, set, length-take, length-drop, drop_of_length-le}
+use lib.ListN.{length, get_or, take, drop, length-take, length-drop, drop_of_length-le}
 use lib.Seq.{sets, drop-cons, get_or-take, get_or-drop, take-length}
 use borrow.Author.Tests.{le-leb, lt-leb, leb-true, leb-false}
-use Rattle.std.specs.Prelude.{Result, Ok, Err}
+use Rattle.std.specs.Prelude.{Result}
 use Rattle.answers.specs.declared.Refusal.{Refusal}
 use Rattle.answers.specs.Answer.{answered, done, refused}
 use Rattle.answers.specs.Write.{Writes}
-use Rattle.answers.specs.declared.Refusal.TheVariants.{BadCall, OutputFull}
-use Rattle.answers.proofs.Write.{writes_refused, writes_full, writes_next, writes_sets}
+use Rattle.answers.specs.declared.Refusal.TheVariants.{BadCall}
+use Rattle.answers.proofs.Write.{writes_sets}
 use Rattle.byte_writing.specs.Stretch.{stretch_of}
 
 -- a test of the start alone, where the length is not past the end

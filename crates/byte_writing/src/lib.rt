@@ -34,6 +34,9 @@ pub fn write(
     if !inside(buf.len(), at, len) {
         return Err(Refusal::OutputFull);
     }
-    buf[at..at + len].copy_from_slice(&from[start..start + len]);
+    // By a loop: `copy_from_slice` would have the archive for C need `memmove` from outside.
+    for (k, &byte) in from[start..start + len].iter().enumerate() {
+        buf[at + k] = byte;
+    }
     Ok(at + len)
 }

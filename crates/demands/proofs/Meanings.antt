@@ -1,22 +1,26 @@
 -- A promise of the form `meaning r ≡ x`, where x is a definition of the input alone, leaves one answer r. Assumes nothing.
 -- One law for each meaning, whatever x is; each is shown by a way back, from the meaning to the answer.
 use mathlib.Core.Path.{◌≡◌, refl, sym, ap, ◌∙◌}
-use mathlib.Core.Bool.{true, false}
 use mathlib.Core.Option.{Option, some, none}
 use Prim.Native.Nat.{ℕ}
-use Rattle.std.specs.Prelude.{Result, Ok, Err, Some, None, Option as Maybe}
+use Rattle.std.specs.Prelude.{Result, Ok, Err, Some, None, Option as Maybe, List, cond}
 use Rattle.answers.specs.Answer.{answered, answered_or_cut, Answer, done, refused}
 use Rattle.answers.specs.Table as answers
 use Rattle.answers.specs.declared.Refusal.{Refusal}
 use Rattle.block.specs.Lines as block
 use Rattle.block.specs.declared.FieldLine.{FieldLine}
+use Rattle.blocked.specs.Waiting.{Counted, counted}
+use Rattle.blocked.specs.declared.Waiting.{Waiting}
 use Rattle.decoder_stream.specs.Reports as reports
 use Rattle.decoder_stream.specs.declared.Report.{Report}
 use Rattle.dynamic.specs.Calls.{tested}
+use Rattle.dynamic.specs.Record.{Checked, checked}
 use Rattle.entries.specs.Latest.{latest}
 use Rattle.header_prefix.specs.declared.Prefix.{Prefix}
 use Rattle.prefix_int.specs.declared.Integer.{Integer}
 use Rattle.prefix_string.specs.declared.Text.{Text}
+use Rattle.ring.specs.Ring.{Cut, was_cut}
+use Rattle.ring.specs.declared.Ring.{Ring}
 use Rattle.running.specs.Run.{Whole}
 use Rattle.running.specs.declared.Whole.{Whole as CodeWhole}
 use Rattle.section_steps.specs.declared.Cursor.{Cursor}
@@ -27,6 +31,11 @@ use Rattle.static_table.specs.declared.Place.{Place}
 use Rattle.stream.specs.declared.OneInteger.{OneInteger}
 use Rattle.stream.specs.declared.NameRef.{NameRef}
 use Rattle.stream.specs.declared.Literal.{Literal}
+use Rattle.tracking.specs.Queue.{Floor, floored, Queued, stepped}
+use Rattle.tracking.specs.Uses.{Noted, noted}
+use Rattle.tracking.specs.declared.Held.{Held}
+use Rattle.tracking.specs.declared.Queue.{Queue}
+use Rattle.tracking.specs.declared.Uses.{Uses}
 
 settled : {R M : Type 0} (meaning : R → M) (back : M → R) → ((r : R) → back (meaning r) ≡ r)
     → (r r' : R) {x : M} → meaning r ≡ x → meaning r' ≡ x → r ≡ r'
@@ -82,6 +91,68 @@ one_capacity_test = settled tested back way
     way : (r : Result Unit Refusal) → back (tested r) ≡ r
     way (Ok tt) = refl
     way (Err w) = refl
+
+-- ---- parts of the table's calls, whose answer is the next part, or none
+
+pub one_checked : (r r' : Maybe ℕ) {x : Checked} → checked r ≡ x → checked r' ≡ x → r ≡ r'
+one_checked = settled checked back way
+  where
+    back : Checked → Maybe ℕ
+    back c = cond c.sound (Some c.low) None
+
+    way : (r : Maybe ℕ) → back (checked r) ≡ r
+    way (Some low) = refl
+    way None = refl
+
+pub one_cut : (ring : Ring) (r r' : Maybe Ring) {x : Cut} → was_cut ring r ≡ x → was_cut ring r' ≡ x → r ≡ r'
+one_cut ring = settled (was_cut ring) back way
+  where
+    back : Cut → Maybe Ring
+    back c = cond c.made (Some c.ring) None
+
+    way : (r : Maybe Ring) → back (was_cut ring r) ≡ r
+    way (Some next) = refl
+    way None = refl
+
+pub one_noted : (us : List Held) (n : ℕ) (r r' : Maybe Uses) {x : Noted} → noted us n r ≡ x → noted us n r' ≡ x → r ≡ r'
+one_noted us n = settled (noted us n) back way
+  where
+    back : Noted → Maybe Uses
+    back u = cond u.fits (Some (record { used = u.used; uses = u.uses })) None
+
+    way : (r : Maybe Uses) → back (noted us n r) ≡ r
+    way (Some u) = refl
+    way None = refl
+
+pub one_floor : (low : ℕ) (r r' : Maybe ℕ) {x : Floor} → floored low r ≡ x → floored low r' ≡ x → r ≡ r'
+one_floor low = settled (floored low) back way
+  where
+    back : Floor → Maybe ℕ
+    back f = cond f.live (Some f.low) None
+
+    way : (r : Maybe ℕ) → back (floored low r) ≡ r
+    way (Some least) = refl
+    way None = refl
+
+pub one_queue : (q : Queue) (r r' : Maybe Queue) {x : Queued} → stepped q r ≡ x → stepped q r' ≡ x → r ≡ r'
+one_queue q = settled (stepped q) back way
+  where
+    back : Queued → Maybe Queue
+    back x = cond x.made (Some x.queue) None
+
+    way : (r : Maybe Queue) → back (stepped q r) ≡ r
+    way (Some next) = refl
+    way None = refl
+
+pub one_counted : (w : Waiting) (r r' : Maybe Waiting) {x : Counted} → counted w r ≡ x → counted w r' ≡ x → r ≡ r'
+one_counted w = settled (counted w) back way
+  where
+    back : Counted → Maybe Waiting
+    back c = cond c.fits (Some c.waiting) None
+
+    way : (r : Maybe Waiting) → back (counted w r) ≡ r
+    way (Some next) = refl
+    way None = refl
 
 -- ---- integers and strings
 

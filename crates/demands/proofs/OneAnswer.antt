@@ -28,7 +28,14 @@
 -- | dynamic: capacity_test | tested r ≡ .. | one_capacity_test (Meanings) |
 -- | entries: fewest | r ≡ .., for every array of starts | one_room |
 -- | arena: write, move_bytes | the arena after ≡ .. | one_exact |
--- | section_steps: begin; Table: fresh, checked; dynamic: push_reply; Ring: sound, room, cut; all of tracking and forms; answers: number, ends_early; prefix_int, text_writing: call_ok; stream_parts: past_limit; call_parts: open_floor, lookup_of, with_uses, waiting_with; VirtualAddressSpace: largest_ref; arena: is_at; entries: check | r ≡ .. | one_exact |
+-- | Table: checked | checked r ≡ .. | one_checked (Meanings) |
+-- | Ring: cut | was_cut ring r ≡ .. | one_cut (Meanings) |
+-- | tracking: note | noted uses used r ≡ .. | one_noted (Meanings) |
+-- | tracking: section_floor, queue_floor; call_parts: open_floor | floored low r ≡ .. | one_floor (Meanings) |
+-- | tracking: push, release | stepped queue r ≡ .. | one_queue (Meanings) |
+-- | tracking: block; call_parts: waiting_with | counted waiting r ≡ .. | one_counted (Meanings) |
+-- | answers: cut_short | answered_or_cut r ≡ .. | one_or_cut (Meanings) |
+-- | section_steps: begin; Cursor: decoded; Table: fresh; dynamic: push_reply; Ring: sound, room; tracking: waiting_ok, let_go; all of forms; answers: number, ends_early; prefix_int, text_writing: call_ok; stream_parts: past_limit; call_parts: lookup_of, with_uses; VirtualAddressSpace: largest_ref; arena: is_at; entries: check | r ≡ .. | one_exact |
 -- | instructions: read_instruction | instruction_read s r ≡ .. | one_instruction: see there |
 -- | field_lines: read_on, read_static | field_read s a r ≡ .., for every arena | one_field: see there |
 -- | field_lines: entry_on, entry_static, static_entry | entry_read a r ≡ .., for every arena | one_entry: see there |

@@ -95,6 +95,20 @@ committed q w t =
       section = t.section;
     }
 
+-- the parts that a commit changes
+abbrev pub with_parts : Queue → Waiting → Bool → Table → Table
+with_parts q w on t =
+    record {
+      ring = t.ring;
+      known = t.known;
+      most = t.most;
+      waiting = w;
+      queue = q;
+      active = on;
+      base = t.base;
+      section = t.section;
+    }
+
 -- the queue
 abbrev pub with_queue : Queue → Table → Table
 with_queue q t =

@@ -1,7 +1,7 @@
 // The dynamic table, RFC 9204 3.2: its record, the calls on it, the open section and the peer's reports.
 #![tactic(auto)]
 
-ghost use Rattle.std.specs.Prelude.{◌≡◌, true, Ok, Err, ◌+◌, ◌-◌, ◌≤◌, ◌<◌, ◌^◌};
+ghost use Rattle.std.specs.Prelude.{◌≡◌, true, false, Ok, Err, ◌+◌, ◌-◌, ◌≤◌, ◌<◌, ◌^◌};
 ghost use Rattle.arena.specs.Ring.{long_enough};
 ghost use Rattle.entries.specs.Latest.{bytes_in, is_given};
 ghost use Rattle.model.specs.Drop as model-table;
@@ -144,6 +144,27 @@ fn note_origin(section: &Section, absolute: usize, origin: Origin) -> Option<Use
     }
 }
 
+// The entries with one more, where it can be, of any record that has them. This step and `enqueue` are lent the parts that
+// they change, and `limit_blocked`, `open` and `close` are handed what the record was admitted with: a record that is lent
+// to the check after it was made to change would be copied twice more.
+fn put_in(
+    ring: &mut Ring,
+    admitted: Result<usize, Refusal>,
+    arena: &mut [u8],
+    name: &[u8],
+    value: &[u8],
+) -> Result<(), Refusal>
+    ensures { (t : Table) → admitted ≡ calls.admitting_with (calls.with_ring ring.old t) arena.old false → Shape (calls.with_ring ring.old t)
+        → Puts (calls.with_ring ring.old t) arena.old arena.new (calls.put (calls.with_ring ring.old t) arena.old name.now value.now)
+        (calls.answer (calls.with_ring ring.new t) result) name.now value.now }
+{
+    let low = admitted?;
+    let capacity = ring.capacity;
+    let pushed = ring.push(arena, low, Source::Given, name, value);
+    *ring = pushed.ring;
+    push_reply(capacity, pushed.push)
+}
+
 impl Table {
     // A table with nothing in it, and no room.
     pub fn fresh() -> Table
@@ -231,14 +252,15 @@ impl Table {
         Err(Refusal::NoSection)
     }
 
-    // The same with an arena, which is to be long enough.
+    // The same with an arena, which is to be long enough: tested behind the record, as a test before it would have the record copied.
     fn admitted_with(&self, arena: &[u8], wanted: bool) -> Result<usize, Refusal>
         ensures { result ≡ calls.admitting_with self.now arena.now «wanted» }
     {
+        let admitted = self.admitted(wanted);
         if arena.len() < RING {
             return Err(Refusal::BadCall);
         }
-        self.admitted(wanted)
+        admitted
     }
 
     fn resize(&mut self, capacity: usize) -> Result<(), Refusal>
@@ -261,10 +283,15 @@ impl Table {
         Replied { table: self, reply }
     }
 
-    fn limit_blocked(&mut self, most: usize) -> Result<(), Refusal>
+    fn limit_blocked(
+        &mut self,
+        admitted: Result<usize, Refusal>,
+        most: usize,
+    ) -> Result<(), Refusal>
+        requires { admitted ≡ calls.admitting self.old false }
         ensures { Keeps self.old (calls.set_most self.old most) (calls.answer self.new result) (λ t. model-table.set_blocked_max t most) }
     {
-        self.admitted(false)?;
+        admitted?;
         if BLOCKED_SECTIONS <= most {
             return Err(Refusal::MaxBlockedStreamsTooLarge);
         }
@@ -273,35 +300,33 @@ impl Table {
     }
 
     // Sets the blocked maximum.
-    pub fn set_max_blocked(mut self, most: usize) -> Replied
+    pub fn set_max_blocked(self, most: usize) -> Replied
         ensures { Keeps self (calls.set_most self most) result (λ t. model-table.set_blocked_max t most) }
     {
-        let reply = self.limit_blocked(most);
-        Replied { table: self, reply }
-    }
-
-    fn put_in(&mut self, arena: &mut [u8], name: &[u8], value: &[u8]) -> Result<(), Refusal>
-        ensures { Shape self.old → Puts self.old arena.old arena.new (calls.put self.old arena.old name.now value.now) (calls.answer self.new result) name.now value.now }
-    {
-        let low = self.admitted_with(arena, false)?;
-        let capacity = self.ring.capacity;
-        let pushed = self.ring.push(arena, low, Source::Given, name, value);
-        self.ring = pushed.ring;
-        push_reply(capacity, pushed.push)
+        let admitted = self.admitted(false);
+        let mut table = self;
+        let reply = table.limit_blocked(admitted, most);
+        Replied { table, reply }
     }
 
     // Inserts a field that the peer sent, where it can be.
-    pub fn put(mut self, arena: &mut [u8], name: &[u8], value: &[u8]) -> Replied
+    pub fn put(self, arena: &mut [u8], name: &[u8], value: &[u8]) -> Replied
         ensures { Puts self arena.old arena.new (calls.put self arena.old name.now value.now) result name.now value.now }
     {
-        let reply = self.put_in(arena, name, value);
-        Replied { table: self, reply }
+        let admitted = self.admitted_with(arena, false);
+        let mut ring = self.ring;
+        let reply = put_in(&mut ring, admitted, arena, name, value);
+        Replied {
+            table: Table { ring, ..self },
+            reply,
+        }
     }
 
-    fn open(&mut self, stream: u64) -> Result<(), Refusal>
+    fn open(&mut self, admitted: Result<usize, Refusal>, stream: u64) -> Result<(), Refusal>
+        requires { admitted ≡ calls.admitting self.old false }
         ensures { Keeps self.old (calls.begin self.old stream) (calls.answer self.new result) (λ t. model-section.begin t stream) }
     {
-        self.admitted(false)?;
+        admitted?;
         let dropped = self.ring.dropped;
         self.active = true;
         self.base = self.ring.inserted - dropped;
@@ -315,11 +340,13 @@ impl Table {
     }
 
     // Opens a section of a stream.
-    pub fn begin(mut self, stream: u64) -> Replied
+    pub fn begin(self, stream: u64) -> Replied
         ensures { Keeps self (calls.begin self stream) result (λ t. model-section.begin t stream) }
     {
-        let reply = self.open(stream);
-        Replied { table: self, reply }
+        let admitted = self.admitted(false);
+        let mut table = self;
+        let reply = table.open(admitted, stream);
+        Replied { table, reply }
     }
 
     // The latest entry of a name or of a whole field, which the open section then uses.
@@ -417,45 +444,69 @@ impl Table {
         }
     }
 
-    fn enqueue(&mut self, largest: usize) -> Result<(), Refusal>
-        ensures { Shape self.old → Keeps self.old (calls.commit self.old largest) (calls.answer self.new result) (λ t. model-section.commit t largest) }
+    // The parts that a commit changes, of any record that has them beside the rest of this one.
+    fn enqueue(
+        &self,
+        queue: &mut Queue,
+        waiting: &mut Waiting,
+        active: &mut bool,
+        admitted: Result<usize, Refusal>,
+        largest: usize,
+    ) -> Result<(), Refusal>
+        ensures { let before = calls.with_parts queue.old waiting.old active.old self.now in
+            admitted ≡ calls.admitting before true → Shape before
+            → Keeps before (calls.commit before largest) (calls.answer (calls.with_parts queue.new waiting.new active.new self.now) result)
+            (λ t. model-section.commit t largest) }
     {
-        self.admitted(true)?;
+        admitted?;
         if self.ring.inserted < largest {
             return Err(Refusal::BadLargest);
         }
-        let queue = tracking::push(&self.queue, &self.section).ok_or(Refusal::TrackingFull)?;
-        let waiting = waiting_with(&self.waiting, self.known, largest).ok_or(
-            Refusal::TrackingFull,
-        )?;
-        self.queue = queue;
-        self.waiting = waiting;
-        self.active = false;
+        let next = tracking::push(queue, &self.section).ok_or(Refusal::TrackingFull)?;
+        let more = waiting_with(waiting, self.known, largest).ok_or(Refusal::TrackingFull)?;
+        *queue = next;
+        *waiting = more;
+        *active = false;
         Ok(())
     }
 
     // Puts the open section into the queue; largest is its largest reference.
-    pub fn commit(mut self, largest: usize) -> Replied
+    pub fn commit(self, largest: usize) -> Replied
         ensures { Keeps self (calls.commit self largest) result (λ t. model-section.commit t largest) }
     {
-        let reply = self.enqueue(largest);
-        Replied { table: self, reply }
+        let admitted = self.admitted(true);
+        let mut queue = self.queue;
+        let mut waiting = self.waiting;
+        let mut active = self.active;
+        let reply = self.enqueue(&mut queue, &mut waiting, &mut active, admitted, largest);
+        Replied {
+            table: Table {
+                queue,
+                waiting,
+                active,
+                ..self
+            },
+            reply,
+        }
     }
 
-    fn close(&mut self) -> Result<(), Refusal>
+    fn close(&mut self, admitted: Result<usize, Refusal>) -> Result<(), Refusal>
+        requires { admitted ≡ calls.admitting self.old true }
         ensures { Keeps self.old (calls.abandon self.old) (calls.answer self.new result) model-section.abandon }
     {
-        self.admitted(true)?;
+        admitted?;
         self.active = false;
         Ok(())
     }
 
     // Closes the open section and gives all its references back.
-    pub fn abandon(mut self) -> Replied
+    pub fn abandon(self) -> Replied
         ensures { Keeps self (calls.abandon self) result (model-section.abandon) }
     {
-        let reply = self.close();
-        Replied { table: self, reply }
+        let admitted = self.admitted(true);
+        let mut table = self;
+        let reply = table.close(admitted);
+        Replied { table, reply }
     }
 
     // The release of the stream's oldest section in the queue, which an acknowledgement and a cancellation are.

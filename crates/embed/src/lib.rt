@@ -31,6 +31,7 @@ pub fn qpack_set_capacity(table: Table, capacity: usize) -> Outcome
 }
 
 // Sets the blocked maximum.
+#[inline(always)]
 pub fn qpack_set_max_blocked(table: Table, most: usize) -> Outcome
     ensures { result ≡ spec.outcome_of (calls.set_most table most) }
 {
@@ -38,6 +39,7 @@ pub fn qpack_set_max_blocked(table: Table, most: usize) -> Outcome
 }
 
 // Inserts a field, where it can be.
+#[inline(always)]
 pub fn qpack_put(table: Table, arena: &mut [u8], name: &[u8], value: &[u8]) -> Outcome
     ensures value { result ≡ spec.outcome_of (calls.put table arena.old name.now value.now) }
     ensures arena_after { arena.new ≡ calls.bytes_after table result.table arena.old name.now value.now }

@@ -77,6 +77,7 @@ pub fn reply_number(reply: Result<(), Refusal>) -> u8
 impl From<Replied> for Outcome {
     ghost from_gives = { λ r x. x ≡ spec.outcome_of r };
 
+    #[inline(always)]
     fn from(r: Replied) -> Outcome {
         Outcome {
             table: r.table,

@@ -133,7 +133,7 @@ fn run(s: &[u8]) -> Received
 fn read_front(rt: &HostRuntime, buf: &mut [u8]) -> usize
     ensures { result ≤ length buf.new }
 {
-    let mut source = rt.reader();
+    let mut source = rt.stdin();
     let mut n = 0;
     // each turn goes on behind what it was given
     while n < buf.len() {
@@ -149,13 +149,16 @@ fn read_front(rt: &HostRuntime, buf: &mut [u8]) -> usize
 }
 
 fn main(rt: HostRuntime) {
-    let mut input = [0; INPUT_ROOM + 1];
+    let mut input = [0; INPUT_ROOM];
     let n = read_front(&rt, &mut input);
-    let report = if INPUT_ROOM < n {
+    // a stream that goes on is longer than one may be
+    let more = read_front(&rt, &mut [0; 1]);
+    let report = if 0 < more {
         report_of(&Table::fresh().ring, 0, Err(Refusal::BadCall))
     } else {
         let received = run(&input[..n]);
         report_of(&received.table.ring, received.consumed, received.reply)
     };
-    let _ = print!(rt; "{}", report.as_str());
+    // in one write; where it fails, there is nobody to tell
+    let _ = rt.write_all(report.as_str().as_bytes());
 }

@@ -3,12 +3,7 @@
 
 use script::session;
 use script_calls::Sides;
-use std::io;
-use std::io::{BufReader, BufWriter};
 
-fn main(rt: HostRuntime) -> io::Result<()> {
-    let alloc = rt.alloc();
-    let source = BufReader::new(alloc, rt.reader())?;
-    let mut out = BufWriter::new(alloc, io::writer(&rt))?;
-    session::run(alloc, source, &mut Sides::new(), &mut out)
+fn main(rt: HostRuntime) {
+    session::run(rt.stdin(), &mut Sides::new(), rt.stdout())
 }

@@ -7,8 +7,7 @@ use script::faults::Fault;
 use script::input::Command;
 use script::session;
 use script::session::{Calls, Stop};
-use std::io;
-use std::io::{BufReader, BufWriter, Write};
+use std::io::Write;
 
 #[derive(Drop)]
 struct Leaves;
@@ -25,9 +24,6 @@ impl Calls for Leaves {
     }
 }
 
-fn main(rt: HostRuntime) -> io::Result<()> {
-    let alloc = rt.alloc();
-    let source = BufReader::new(alloc, rt.reader())?;
-    let mut out = BufWriter::new(alloc, io::writer(&rt))?;
-    session::run(alloc, source, &mut Leaves, &mut out)
+fn main(rt: HostRuntime) {
+    session::run(rt.stdin(), &mut Leaves, rt.stdout())
 }

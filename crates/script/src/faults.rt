@@ -1,6 +1,6 @@
 // Why a script is not read on, and what is said of it.
 use std::error::Error;
-use std::{fmt, io};
+use std::fmt;
 
 #[derive(Clone, Copy, PartialEq, Eq, Debug)]
 pub enum Fault {
@@ -32,10 +32,3 @@ impl fmt::Display for Fault {
 }
 
 impl Error for Fault {}
-
-// Bytes that cannot be read are not there.
-impl From<io::Error> for Fault {
-    fn from(_why: io::Error) -> Fault {
-        Fault::CutOff
-    }
-}

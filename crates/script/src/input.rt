@@ -1,12 +1,11 @@
 // A command from a script: its call, its table, its numbers and its strings.
-ghost use Rattle.std.specs.Prelude.{◌<◌, ◌≤◌, IfOk};
+ghost use Rattle.std.specs.Prelude.{◌<◌, ◌≤◌, IfOk, length};
 
 use crate::bounds;
 use crate::calls::Opcode;
 use crate::faults::Fault;
 use crate::opcodes::Shape;
-use std::alloc::{AllocError, Global};
-use std::io::{BufRead, Read};
+use std::io::Read;
 
 // How many bytes an arena has.
 pub const ARENA: usize = 16640;
@@ -14,11 +13,17 @@ pub const ARENA: usize = 16640;
 // How many bytes a string or a buffer has at the most.
 pub const LONGEST: usize = 65536;
 
+// How many bytes a number has.
+const NUMBER: usize = 8;
+
+// How many bytes the first string's buffer has: it is read with the second one's length.
+const FIRST: usize = LONGEST + NUMBER;
+
 // How many tables there are.
 pub const TABLES: usize = 4;
 
-// How many bytes a command's numbers have at the most.
-const NUMBERS: usize = 96;
+// How many bytes a command's numbers and its first string's length have at the most.
+const NUMBERS: usize = 104;
 
 #[derive(Clone, Copy)]
 pub struct Command<'a> {
@@ -41,32 +46,61 @@ pub struct Command<'a> {
 
 // A script, and room for the strings of one command.
 #[derive(Drop)]
-pub struct Script<R: BufRead + Drop> {
+pub struct Script<R: Read + Drop> {
     source: R,
-    name: Vec<u8>,
-    value: Vec<u8>,
+    name: [u8; FIRST],
+    value: [u8; LONGEST],
 }
 
-fn read_number(source: &mut impl Read) -> Result<u64, Fault> {
-    let mut bytes = [0; 8];
-    source.read_exact(&mut bytes)?;
-    Ok(u64::from_le_bytes(bytes))
+// Reads to a buffer's end, or to the first read that gives nothing or fails. What follows is left to the next reader.
+fn read_full(source: &mut impl Read, buffer: &mut [u8]) -> usize
+    ensures { result ≤ length buffer.new }
+{
+    let mut n = 0;
+    // each turn goes on behind what it was given
+    while n < buffer.len() {
+        let Ok(more) = source.read(&mut buffer[n..]) else {
+            break;
+        };
+        if more == 0 {
+            break;
+        }
+        n += more;
+    }
+    n
 }
 
-// Reads the length of a string, 0 where the command does not have it.
-fn read_len(source: &mut impl Read, has: bool) -> Result<u64, Fault> {
-    if has { read_number(source) } else { Ok(0) }
+// Reads a whole buffer.
+fn read_all(source: &mut impl Read, buffer: &mut [u8]) -> Result<(), Fault> {
+    if read_full(source, buffer) < buffer.len() {
+        return Err(Fault::CutOff);
+    }
+    Ok(())
 }
 
-// Reads a string to the front of a buffer that is as long as the longest.
-fn read_text<'a>(
-    source: &mut impl Read,
-    buffer: &'a mut [u8],
+// How many bytes a string's length has, where there is one.
+fn length_room(has: bool) -> usize
+    ensures { result ≤ 8 }
+{
+    if has { NUMBER } else { 0 }
+}
+
+// Reads a string, and what stands behind it, to the front of a buffer.
+fn read_text<'a, R: Read, const ROOM: usize>(
+    source: &mut R,
+    buffer: &'a mut [u8; ROOM],
     len: u64,
-) -> Result<&'a [u8], Fault> {
-    let text = buffer.get_mut(..len as usize).ok_or(Fault::LongText)?;
-    source.read_exact(text)?;
-    Ok(text)
+    behind: usize,
+) -> Result<(&'a [u8], &'a [u8]), Fault>
+    requires { behind ≤ 8 }
+{
+    let len = len as usize;
+    if LONGEST < len {
+        return Err(Fault::LongText);
+    }
+    let text = buffer.get_mut(..len + behind).ok_or(Fault::LongText)?;
+    read_all(source, text)?;
+    Ok(text.split_at(len))
 }
 
 // The number that begins at a place, 0 past the end.
@@ -113,30 +147,23 @@ fn numbers_of(bytes: &[u8]) -> [u64; 9] {
     numbers
 }
 
-impl<R: BufRead + Drop> Script<R> {
-    pub fn new(alloc: Global, source: R) -> Result<Script<R>, AllocError> {
-        Ok(Script {
+impl<R: Read + Drop> Script<R> {
+    pub fn new(source: R) -> Script<R> {
+        Script {
             source,
-            name: vec![in alloc; 0; LONGEST]?,
-            value: vec![in alloc; 0; LONGEST]?,
-        })
-    }
-
-    // A script ends where nothing more can be read.
-    fn is_at_end(&mut self) -> bool {
-        match self.source.fill_buf() {
-            Ok(bytes) => bytes.is_empty(),
-            Err(_) => true,
+            name: [0; FIRST],
+            value: [0; LONGEST],
         }
     }
 
-    // The next command; none at the script's end.
+    // The next command; none at the script's end, which is where nothing more can be read.
     pub fn next_command(&mut self) -> Result<Option<Command<'_>>, Fault> {
-        if self.is_at_end() {
-            return Ok(None);
-        }
         let mut head = [0; 2];
-        self.source.read_exact(&mut head)?;
+        match read_full(&mut self.source, &mut head) {
+            0 => return Ok(None),
+            1 => return Err(Fault::CutOff),
+            _ => {}
+        }
         let [number, table] = head;
         let shape = Shape::try_from(number)?;
         let table = if shape.opcode.has_table() {
@@ -162,17 +189,21 @@ impl<R: BufRead + Drop> Script<R> {
             value,
         } = self;
         let mut bytes = [0; NUMBERS];
-        source.read_exact(&mut bytes[..shape.numbers_end()])?;
-        let name_len = read_len(source, 0 < shape.strings)?;
+        let end = shape.numbers_end();
+        read_all(source, &mut bytes[..end + length_room(0 < shape.strings)])?;
         let lent = lent_of(shape, &bytes)?;
         let (room, fill) = output_of(shape, &bytes)?;
-        let numbers = numbers_of(&bytes[shape.others_at()..]);
+        let numbers = numbers_of(&bytes[shape.others_at()..end]);
         if !shape.bound.holds(numbers[0]) {
             return Err(Fault::LargeNumber);
         }
-        let name = read_text(source, name, name_len)?;
-        let value_len = read_len(source, 1 < shape.strings)?;
-        let value = read_text(source, value, value_len)?;
+        let (name, behind) = read_text(
+            source,
+            name,
+            number_at(&bytes, end),
+            length_room(1 < shape.strings),
+        )?;
+        let (value, _) = read_text(source, value, number_at(behind, 0), 0)?;
         Ok(Command {
             opcode: shape.opcode,
             table,

@@ -6,6 +6,7 @@ pub mod bounds;
 pub mod calls;
 pub mod faults;
 pub mod input;
+mod line;
 pub mod opcodes;
 pub mod session;
 pub mod text;

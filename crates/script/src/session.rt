@@ -1,12 +1,12 @@
 // A whole script: each command's call is made, and its answer written on a line.
 use crate::faults::Fault;
-use crate::input::{Command, Script};
+use crate::input::{Command, LONGEST, Script};
+use crate::line::Line;
 use crate::text::Buffer;
-use std::alloc::{AllocError, Global};
 use std::io;
-use std::io::{BufRead, Write};
+use std::io::{Read, Write};
 
-// Why no more commands are answered.
+// Why a command has no answer.
 #[derive(Drop)]
 pub enum Stop {
     BadInput(Fault),
@@ -25,29 +25,23 @@ impl From<io::Error> for Stop {
     }
 }
 
-impl From<AllocError> for Stop {
-    fn from(why: AllocError) -> Stop {
-        Stop::NoOutput(io::Error::from(why))
-    }
-}
-
 // What makes a command's call. It writes the answer but for the output buffer, which it is lent.
 pub trait Calls {
     fn make<W: Write>(&mut self, c: &Command, buffer: &mut [u8], out: &mut W) -> Result<(), Stop>;
 }
 
 // Answers the next command, so that who sent it can read the line; false at the script's end.
-fn answer_next<R: BufRead + Drop, C: Calls, W: Write>(
+fn answer_next<R: Read + Drop, C: Calls, W: Write>(
     script: &mut Script<R>,
-    buffer: &mut Vec<u8>,
+    buffer: &mut [u8; LONGEST],
     calls: &mut C,
     out: &mut W,
 ) -> Result<bool, Stop> {
     let Some(command) = script.next_command()? else {
         return Ok(false);
     };
-    buffer.clear();
-    buffer.resize(command.room, command.fill.unwrap_or(0))?;
+    let buffer = &mut buffer[..command.room.min(LONGEST)];
+    buffer.fill(command.fill.unwrap_or(0));
     calls.make(&command, buffer, out)?;
     let shown = Buffer {
         bytes: buffer,
@@ -59,24 +53,21 @@ fn answer_next<R: BufRead + Drop, C: Calls, W: Write>(
 }
 
 // Answers a script's commands, up to its end or to the first one that is bad. The count is only there so that the loop ends.
-pub fn run<R: BufRead + Drop, C: Calls, W: Write>(
-    alloc: Global,
-    source: R,
-    calls: &mut C,
-    out: &mut W,
-) -> io::Result<()> {
-    let mut script = Script::new(alloc, source)?;
-    let mut buffer = Vec::new(alloc);
+pub fn run<R: Read + Drop, C: Calls, W: Write + Drop>(source: R, calls: &mut C, to: W) {
+    let mut script = Script::new(source);
+    let mut buffer = [0; LONGEST];
+    let mut out = Line::new(to);
     for at in 1..u64::MAX {
-        match answer_next(&mut script, &mut buffer, calls, out) {
+        match answer_next(&mut script, &mut buffer, calls, &mut out) {
             Ok(true) => {}
             Ok(false) => break,
             Err(Stop::BadInput(fault)) => {
-                writeln!(out, "bad input in command {at}: {fault}")?;
+                let _ = writeln!(out, "bad input in command {at}: {fault}");
                 break;
             }
-            Err(Stop::NoOutput(why)) => return Err(why),
+            // passed over, as a write that fails
+            Err(Stop::NoOutput(_)) => {}
         }
     }
-    out.flush()
+    out.hand_on();
 }

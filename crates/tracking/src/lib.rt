@@ -201,7 +201,10 @@ pub fn release(queue: &Queue, stream: u64) -> Option<Queue>
     let i = oldest_of(queue, stream)?;
     let last = queue.queued - 1;
     let mut next = *queue;
-    next.places.copy_within(i + 1..queue.queued, i);
+    // By a loop, from the queue that was lent: `copy_within` would have the archive for C need `memmove` from outside.
+    for (k, &section) in queue.places[i + 1..queue.queued].iter().enumerate() {
+        next.places[i + k] = section;
+    }
     next.places[last] = NO_SECTION;
     next.queued = last;
     Some(next)

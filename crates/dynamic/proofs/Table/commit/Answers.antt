@@ -16,4 +16,4 @@ shape z =
     }
 
 pub returns : goal.returns
-returns c = c.enqueue-reply.ensures (shape (goal.at.returns c).Start)
+returns c = c.enqueue-reply.ensures c.admitted-admitted.ensures (shape (goal.at.returns c).Start)

@@ -10,14 +10,14 @@ use Rattle.dynamic.proofs.Table.limit_blocked.Goals as goal
 pub returns-in_err-admitted : goal.returns-in_err-admitted
 returns-in_err-admitted c =
     let e : c.from_residual.result ≡ Err c.in_err-admitted.field-0.0 = search rules in
-    rw e (sets_most _ _ (most_refused _ _ _ (sym c.admitted.ensures ∙ c.in_err-admitted.was)))
+    rw e (sets_most _ _ (most_refused _ _ _ (sym c.requires ∙ c.in_err-admitted.was)))
 
 pub returns-then-most-ge-BLOCKED_SECTIONS : goal.returns-then-most-ge-BLOCKED_SECTIONS
 returns-then-most-ge-BLOCKED_SECTIONS c =
-    let p = admitted_ok c.args.self.now false _ (sym c.admitted.ensures ∙ c.in_ok-admitted.was) in
+    let p = admitted_ok c.args.self.now false _ (sym c.requires ∙ c.in_ok-admitted.was) in
     sets_most _ _ (most_over _ _ p.rules p.active c.if-most-ge-BLOCKED_SECTIONS.true)
 
 pub returns : goal.returns
 returns c =
-    let p = admitted_ok c.args.self.now false _ (sym c.admitted.ensures ∙ c.in_ok-admitted.was) in
+    let p = admitted_ok c.args.self.now false _ (sym c.requires ∙ c.in_ok-admitted.was) in
     sets_most _ _ (most_set _ _ p.rules p.active c.if-most-ge-BLOCKED_SECTIONS.false)

@@ -12,14 +12,14 @@ use Rattle.dynamic.proofs.Table.open.Goals as goal
 pub returns-in_err-admitted : goal.returns-in_err-admitted
 returns-in_err-admitted c =
     let e : c.from_residual.result ≡ Err c.in_err-admitted.field-0.0 = search rules in
-    rw e (begin_keeps _ _ _ (begin_refused _ _ _ (sym c.admitted.ensures ∙ c.in_err-admitted.was)))
+    rw e (begin_keeps _ _ _ (begin_refused _ _ _ (sym c.requires ∙ c.in_err-admitted.was)))
 
 pub overflow_sub-self : goal.overflow_sub-self
 overflow_sub-self c =
-    let p = admitted_ok c.args.self.now false _ (sym c.admitted.ensures ∙ c.in_ok-admitted.was) in
+    let p = admitted_ok c.args.self.now false _ (sym c.requires ∙ c.in_ok-admitted.was) in
     (kept _ (facts _ p.rules).ring).rules.order
 
 pub returns : goal.returns
 returns c =
-    let p = admitted_ok c.args.self.now false _ (sym c.admitted.ensures ∙ c.in_ok-admitted.was) in
+    let p = admitted_ok c.args.self.now false _ (sym c.requires ∙ c.in_ok-admitted.was) in
     begin_keeps _ _ _ (begin_done c.args.self.now c.args.stream p.rules p.active)

@@ -16,4 +16,4 @@ shape z =
     }
 
 pub returns : goal.returns
-returns c = c.put_in-reply.ensures (shape (goal.at.returns c).Start)
+returns c = c.put_in-reply.ensures c.args.self c.admitted_with-admitted.ensures (shape (goal.at.returns c).Start)

@@ -1,4 +1,4 @@
--- `dynamic::Table::put_in`: a refusal changes nothing, and else the put is what its push did. Assumes nothing.
+-- `dynamic::put_in`: a refusal changes nothing, and else the put is what its push did. Assumes nothing.
 use mathlib.Core.Path.{◌≡◌, sym, ap, ◌∙◌}
 use mathlib.Core.Bool.{true, false}
 use borrow.Author.Rules.{rules}
@@ -10,18 +10,18 @@ use Rattle.dynamic.specs.Record.{usable, lowest_used}
 use Rattle.dynamic.proofs.Made.{arrays_of}
 use Rattle.dynamic.proofs.Putting.{puts_refused, puts_pushed}
 use Rattle.dynamic.proofs.Steps.{admitted_with_ok}
-use Rattle.dynamic.proofs.Table.put_in.Goals as goal
+use Rattle.dynamic.proofs.put_in.Goals as goal
 
 pub returns-in_err-low : goal.returns-in_err-low
-returns-in_err-low c shape =
+returns-in_err-low c t first shape =
     let e : c.from_residual.result ≡ Err c.in_err-low.field-0.0 = search rules in
-    rw e (puts_refused c.args.self.now c.args.arena.now c.args.name.now c.args.value.now _ (sym c.admitted_with.ensures ∙ c.in_err-low.was))
+    rw e (puts_refused (with_ring c.args.ring.now t) c.args.arena.now c.args.name.now c.args.value.now _ (sym first ∙ c.in_err-low.was))
 
 pub returns : goal.returns
-returns c shape =
-    let t = c.args.self.now in
+returns c other first shape =
+    let t = with_ring c.args.ring.now other in
     let a = c.args.arena.now in
-    let p = admitted_with_ok c.args.self.now c.args.arena.now false _ (sym c.admitted_with.ensures ∙ c.in_ok-low.was) in
+    let p = admitted_with_ok t a false _ (sym first ∙ c.in_ok-low.was) in
     let u : usable t a ≡ true = rw (p.1.rules, p.0) in
     let did : Pushes t.ring a _ (lowest_used t) Given c.args.name.now c.args.value.now c.push-pushed.result =
     rw p.1.lowest at c.push-pushed.ensures in
