@@ -1,7 +1,7 @@
 // The program: an encoder stream on standard input, applied to a fresh table, and a report of the table.
 #![tactic(auto)]
 
-ghost use Rattle.std.specs.Prelude.{◌≡◌, true, ◌+◌, ◌≤◌, ◌++◌, length};
+ghost use Rattle.std.specs.Prelude.{◌≡◌, [], true, ◌+◌, ◌≤◌, ◌++◌, length};
 ghost use Rattle.arrayvec.specs.ArrayString.{array_string_len};
 ghost use Rattle.ring.specs.Ring.{keeps, live};
 ghost use Rattle.qpack_table.specs.Text.{decimal, told, counts, entry_line, entry_lines, number_in, ending, report_of};
@@ -107,17 +107,20 @@ fn put_ending(out: &mut ArrayString<REPORT_ROOM>, consumed: usize, reply: Result
     out.push_str("\n");
 }
 
-// The whole report.
-fn report_of(ring: &Ring, consumed: usize, reply: Result<(), Refusal>) -> ArrayString<REPORT_ROOM>
-    requires { keeps ring.now ≡ true }
-    ensures { result.bytes ≡ report_of ring.now consumed reply }
+// The whole report, into an empty string that is lent: one handed on by value would stand on the stack twice.
+fn report_of(
+    out: &mut ArrayString<REPORT_ROOM>,
+    ring: &Ring,
+    consumed: usize,
+    reply: Result<(), Refusal>,
+)
+    requires { (keeps ring.now ≡ true) × (out.old.bytes ≡ []) }
+    ensures { out.new.bytes ≡ report_of ring.now consumed reply }
 {
-    let mut out = ArrayString::new();
     out.push_str("qpack table\n");
-    put_counts(&mut out, ring);
-    put_entries(&mut out, ring);
-    put_ending(&mut out, consumed, reply);
-    out
+    put_counts(out, ring);
+    put_entries(out, ring);
+    put_ending(out, consumed, reply);
 }
 
 // Applies a stream to a fresh table.
@@ -153,12 +156,18 @@ fn main(rt: HostRuntime) {
     let n = read_front(&rt, &mut input);
     // a stream that goes on is longer than one may be
     let more = read_front(&rt, &mut [0; 1]);
-    let report = if 0 < more {
-        report_of(&Table::fresh().ring, 0, Err(Refusal::BadCall))
+    let mut report = ArrayString::new();
+    if 0 < more {
+        report_of(&mut report, &Table::fresh().ring, 0, Err(Refusal::BadCall));
     } else {
         let received = run(&input[..n]);
-        report_of(&received.table.ring, received.consumed, received.reply)
-    };
+        report_of(
+            &mut report,
+            &received.table.ring,
+            received.consumed,
+            received.reply,
+        );
+    }
     // in one write; where it fails, there is nobody to tell
     let _ = rt.write_all(report.as_str().as_bytes());
 }

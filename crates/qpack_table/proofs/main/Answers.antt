@@ -2,5 +2,5 @@
 use Rattle.qpack_table.proofs.Usable.{fresh_keeps}
 use Rattle.qpack_table.proofs.main.Goals as goal
 
-pub report_of-report-requires : goal.report_of-report-requires
-report_of-report-requires c = fresh_keeps c.fresh.ensures
+pub report_of-requires : goal.report_of-requires
+report_of-requires c = (fresh_keeps c.fresh.ensures, c.new-report.ensures)

@@ -17,4 +17,4 @@ returns c =
     (c.put_entries.ensures.text
     ∙ ap (λ (t : List ℕ). t ++ lines)
     (c.put_counts.ensures.text
-    ∙ ap (λ (t : List ℕ). t ++ counts r) (c.push_str.ensures.bytes ∙ ap (λ (t : List ℕ). t ++ (heading ++ newline)) c.new-out.ensures)))
+    ∙ ap (λ (t : List ℕ). t ++ counts r) (c.push_str.ensures.bytes ∙ ap (λ (t : List ℕ). t ++ (heading ++ newline)) c.requires.1)))
