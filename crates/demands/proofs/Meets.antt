@@ -95,9 +95,15 @@ module _ (t : Table) (a : List ℕ) where
       → reading t a (decoded_numbers (section.section_of r fs m)) ≡ calling t a (read_on s fs₀ o)
   meets_read_on s fs₀ fs o m r w = ap (λ (x : section.Section (List ℕ)). reading t a (decoded_numbers x)) w
 
-  pub meets_next_on : (s : List ℕ) (room : ℕ) (o m : List ℕ) (c : Cursor) (r : CodeLine)
+  pub meets_next_on : (s : List ℕ) (room : ℕ) (o m : List ℕ) (c : Cursor) (r : Line)
+      → (r ≡ section.line_of (section.on_table t a) s room (length o) c) × (m ≡ section.out_of (section.on_table t a) s c o r)
+      → reading t a (stepped r m) ≡ calling t a (next_on s room o c)
+  meets_next_on s room o m c r w =
+      ap (λ (x : List ℕ). reading t a (stepped r x)) w.1
+      ∙ ap (λ (l : Line). reading t a (stepped l (section.out_of (section.on_table t a) s c o l))) w.0
+
+  -- the same of a line as the code has it
+  pub meets_next_on_told : (s : List ℕ) (room : ℕ) (o m : List ℕ) (c : Cursor) (r : CodeLine)
       → (line_told r ≡ section.line_of (section.on_table t a) s room (length o) c) × (m ≡ section.out_of (section.on_table t a) s c o (line_told r))
       → reading t a (stepped (line_told r) m) ≡ calling t a (next_on s room o c)
-  meets_next_on s room o m c r w =
-      ap (λ (x : List ℕ). reading t a (stepped (line_told r) x)) w.1
-      ∙ ap (λ (l : Line). reading t a (stepped l (section.out_of (section.on_table t a) s c o l))) w.0
+  meets_next_on_told s room o m c r w = meets_next_on s room o m c (line_told r) w

@@ -5,5 +5,5 @@ use script::session;
 use script_calls::Sides;
 
 fn main(rt: HostRuntime) {
-    session::run(rt.stdin(), &mut Sides::new(), rt.stdout())
+    session::run_to_end(rt.stdin(), &mut Sides::new(), rt.stdout())
 }

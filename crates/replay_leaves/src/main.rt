@@ -25,5 +25,5 @@ impl Calls for Leaves {
 }
 
 fn main(rt: HostRuntime) {
-    session::run(rt.stdin(), &mut Leaves, rt.stdout())
+    session::run_to_end(rt.stdin(), &mut Leaves, rt.stdout())
 }

@@ -1,6 +1,9 @@
 // Why a script is not read on, and what is said of it.
+ghost use Rattle.std.specs.Prelude.{◌≡◌};
+ghost use Rattle.script.specs.declared.faults.Fault.TheVariants.{CutOff};
+
 use std::error::Error;
-use std::fmt;
+use std::{fmt, io};
 
 #[derive(Clone, Copy, PartialEq, Eq, Debug)]
 pub enum Fault {
@@ -32,3 +35,25 @@ impl fmt::Display for Fault {
 }
 
 impl Error for Fault {}
+
+// Bytes that cannot be read are not there.
+impl From<io::Error> for Fault {
+    ghost from_gives = { λ _ fault. fault ≡ CutOff };
+
+    fn from(_why: io::Error) -> Fault {
+        Fault::CutOff
+    }
+}
+
+#[cfg(test)]
+mod tests {
+    use super::*;
+    use std::io::ErrorKind;
+
+    #[test]
+    fn bytes_that_cannot_be_read_are_not_there(rt: HostRuntime) {
+        for kind in [ErrorKind::UnexpectedEof, ErrorKind::BrokenPipe] {
+            assert_eq!(rt; Fault::from(io::Error::from(kind)), Fault::CutOff);
+        }
+    }
+}
